@@ -1,0 +1,8 @@
+pub mod LayoutLaws
+pub mod Apart
+pub mod Choice
+pub mod FieldLaws
+pub mod Round
+pub mod Cases
+pub mod WordLaws
+pub mod BoardPoints

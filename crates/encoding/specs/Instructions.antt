@@ -1,0 +1,109 @@
+-- Document 01, "Fields as read": what a word's raw fields are read as, the ranges for writing, and the raw fields again.
+use mathlib.Core.Bool.{Bool, _&&_, _||_}
+use mathlib.Core.List.{List, [], _∷_}
+use Prim.Native.Nat.{ℕ, _+_, _-_, _*_, _%_, _/_, _^_}
+use lib.Dec.{eqb, ltb, leb}
+use lib.ListN.{getD}
+use Rattle.element.specs.Size.{pick, sizeOf}
+use Rattle.encoding.specs.declared.Instruction.{Instruction}
+use Rattle.encoding.specs.declared.Instruction.the-variants.{Pext1, Pext2, Dup, Luti4c, Luti4s, Uqrshrnb}
+
+-- ---- reading
+-- raw field i, counted from the highest
+abbrev pub raw : List ℕ → ℕ → ℕ
+raw xs i = getD xs i 0
+
+-- size, imm2, PNn, Pd
+abbrev pub readPext1 : List ℕ → Instruction
+readPext1 xs = Pext1 (8 * 2 ^ raw xs 0) (raw xs 1) (8 + raw xs 2) (raw xs 3)
+
+-- size, i1, PNn, Pd
+abbrev pub readPext2 : List ℕ → Instruction
+readPext2 xs = Pext2 (8 * 2 ^ raw xs 0) (raw xs 1) (8 + raw xs 2) (raw xs 3)
+
+-- DUP's i1:tszh:tszl says the size by its low four bits, and the offset by those above the lowest one that is set
+abbrev pub dupOffset : ℕ → ℕ
+dupOffset t = t / (sizeOf t / 4)
+
+-- i1, tszh, tszl, Rm, Pg, Pn, Pd
+abbrev pub dupBits : List ℕ → ℕ
+dupBits xs = raw xs 0 * 16 + (raw xs 1 * 8 + raw xs 2)
+
+abbrev pub readDup : List ℕ → Instruction
+readDup xs = Dup (sizeOf (dupBits xs)) (dupOffset (dupBits xs)) (12 + raw xs 3) (raw xs 4) (raw xs 5) (raw xs 6)
+
+-- i1, size, Zn, Zd
+abbrev pub readLuti4c : List ℕ → Instruction
+readLuti4c xs = Luti4c (8 * 2 ^ raw xs 1) (raw xs 0) (raw xs 2) (4 * raw xs 3)
+
+-- i1, size, Zn, D, Zd
+abbrev pub readLuti4s : List ℕ → Instruction
+readLuti4s xs = Luti4s (8 * 2 ^ raw xs 1) (raw xs 0) (raw xs 2) (16 * raw xs 3 + raw xs 4)
+
+-- UQRSHRNB's tszh:tszl 001, 01x, 1xx say result sizes 8, 16, 32
+abbrev pub narrowSize : ℕ → ℕ
+narrowSize tsz = pick (ltb tsz 2) 8 (pick (ltb tsz 4) 16 32)
+
+-- tszh, tszl, imm3, Zn, Zd
+abbrev pub narrowTsz : List ℕ → ℕ
+narrowTsz xs = raw xs 0 * 4 + raw xs 1
+
+abbrev pub readUqrshrnb : List ℕ → Instruction
+readUqrshrnb xs = Uqrshrnb (narrowSize (narrowTsz xs)) (2 * narrowSize (narrowTsz xs) - (narrowTsz xs * 8 + raw xs 2)) (raw xs 3) (raw xs 4)
+
+-- ---- ranges for writing
+-- P registers and Z registers
+abbrev pub isP : ℕ → Bool
+isP n = ltb n 16
+
+abbrev pub isZ : ℕ → Bool
+isZ n = ltb n 32
+
+abbrev pub isSize : ℕ → Bool
+isSize n = eqb n 8 || eqb n 16 || eqb n 32 || eqb n 64
+
+abbrev pub pextInRange : ℕ → ℕ → ℕ → ℕ → ℕ → Bool
+pextInRange bound size portion counter pd = isSize size && ltb portion bound && (leb 8 counter && ltb counter 16) && isP pd
+
+abbrev pub dupInRange : ℕ → ℕ → ℕ → ℕ → ℕ → ℕ → Bool
+dupInRange size offset index pg pn pd = isSize size && ltb offset (128 / size) && (leb 12 index && ltb index 16) && (isP pg && isP pn && isP pd)
+
+abbrev pub lutiInRange : Bool → ℕ → ℕ → Bool → Bool
+lutiInRange size i1 zn first = size && ltb i1 2 && isZ zn && first
+
+abbrev pub narrowInRange : ℕ → ℕ → ℕ → ℕ → Bool
+narrowInRange size shift zn zd = (eqb size 8 || eqb size 16 || eqb size 32) && (leb 1 shift && leb shift size) && (isZ zn && isZ zd)
+
+abbrev pub inRange : Instruction → Bool
+inRange (Pext1 size imm2 counter pd) = pextInRange 4 size imm2 counter pd
+inRange (Pext2 size i1 counter pd) = pextInRange 2 size i1 counter pd
+inRange (Dup size offset index pg pn pd) = dupInRange size offset index pg pn pd
+inRange (Luti4c size i1 zn zd) = lutiInRange (eqb size 16 || eqb size 32) i1 zn (eqb (zd % 4) 0 && leb zd 28)
+inRange (Luti4s size i1 zn zd) = lutiInRange (eqb size 16) i1 zn (ltb zd 4 || (leb 16 zd && ltb zd 20))
+inRange (Uqrshrnb size shift zn zd) = narrowInRange size shift zn zd
+
+-- ---- the raw fields that are read as these
+abbrev pub rawSize : ℕ → ℕ
+rawSize size = pick (eqb size 8) 0 (pick (eqb size 16) 1 (pick (eqb size 32) 2 3))
+
+abbrev pub rawPext : ℕ → ℕ → ℕ → ℕ → List ℕ
+rawPext size portion counter pd = rawSize size ∷ portion ∷ (counter - 8) ∷ pd ∷ []
+
+-- i1:tszh:tszl
+abbrev pub rawDupBits : ℕ → ℕ → ℕ
+rawDupBits size offset = offset * (size / 4) + size / 8
+
+abbrev pub rawDup : ℕ → ℕ → ℕ → ℕ → ℕ → List ℕ
+rawDup t index pg pn pd = t / 16 ∷ (t / 8 % 2) ∷ (t % 8) ∷ (index - 12) ∷ pg ∷ pn ∷ pd ∷ []
+
+-- tszh:tszl:imm3 is twice the size less the shift
+abbrev pub rawNarrow : ℕ → ℕ → ℕ → List ℕ
+rawNarrow v zn zd = v / 32 ∷ (v / 8 % 4) ∷ (v % 8) ∷ zn ∷ zd ∷ []
+
+abbrev pub rawOf : Instruction → List ℕ
+rawOf (Pext1 size imm2 counter pd) = rawPext size imm2 counter pd
+rawOf (Pext2 size i1 counter pd) = rawPext size i1 counter pd
+rawOf (Dup size offset index pg pn pd) = rawDup (rawDupBits size offset) index pg pn pd
+rawOf (Luti4c size i1 zn zd) = i1 ∷ rawSize size ∷ zn ∷ (zd / 4) ∷ []
+rawOf (Luti4s size i1 zn zd) = i1 ∷ rawSize size ∷ zn ∷ (zd / 16) ∷ (zd % 16) ∷ []
+rawOf (Uqrshrnb size shift zn zd) = rawNarrow (2 * size - shift) zn zd

@@ -1,0 +1,40 @@
+-- Document 01, "Points on the board": the starred cases that are about reading words, as one list. The crate machine adds the others.
+use mathlib.Core.Path.{_≡_}
+use mathlib.Core.Bool.{true, false}
+use mathlib.Core.List.{List, [], _∷_}
+use Rattle.setting.specs.Allowed.{hasFeature, allowedOf}
+use Rattle.setting.specs.Numbers.{accept, refuse}
+use Rattle.setting.specs.declared.Feature.the-variants.{Sme2p1}
+use Rattle.setting.specs.declared.Setting.{Setting}
+use Rattle.encoding.specs.Decode.{decodeOf}
+use Rattle.encoding.specs.declared.Instruction.the-variants.{Dup, Luti4c, Luti4s, Uqrshrnb}
+
+-- every fact of a list holds
+abbrev pub Every : List (Type 0) → Type 0
+Every [] = Unit {0}
+Every (A ∷ As) = A × Every As
+
+-- VL 128, all features on
+abbrev pub board : Setting
+board = record { vl = 128; features = 31 }
+
+abbrev pub readingPoints : List (Type 0)
+readingPoints =
+    -- 1: c08a9000, c08a8000, c08ab000
+    (decodeOf board 0xc08a9000 ≡ accept (Luti4c 16 0 0 0))
+    ∷ (decodeOf board 0xc08a8000 ≡ refuse 3)
+    ∷ (decodeOf board 0xc08ab000 ≡ refuse 3)
+    -- 2, under every allowed setting: c09a9000 with and without SME2p1, c09aa000
+    ∷ ((s : Setting) → allowedOf s ≡ true → hasFeature (s .features) Sme2p1 ≡ true → decodeOf s 0xc09a9000 ≡ accept (Luti4s 16 0 0 0))
+    ∷ ((s : Setting) → allowedOf s ≡ true → hasFeature (s .features) Sme2p1 ≡ false → decodeOf s 0xc09a9000 ≡ refuse 3)
+    ∷ ((s : Setting) → allowedOf s ≡ true → decodeOf s 0xc09aa000 ≡ refuse 3)
+    -- 3: 45283800, 452f3800, 45603800, 457f3800, 45203800
+    ∷ (decodeOf board 0x45283800 ≡ accept (Uqrshrnb 8 8 0 0))
+    ∷ (decodeOf board 0x452f3800 ≡ accept (Uqrshrnb 8 1 0 0))
+    ∷ (decodeOf board 0x45603800 ≡ accept (Uqrshrnb 32 32 0 0))
+    ∷ (decodeOf board 0x457f3800 ≡ accept (Uqrshrnb 32 1 0 0))
+    ∷ (decodeOf board 0x45203800 ≡ refuse 3)
+    -- 10, its reading: 252c4000, 25e04000
+    ∷ (decodeOf board 0x252c4000 ≡ accept (Dup 8 1 12 0 0 0))
+    ∷ (decodeOf board 0x25e04000 ≡ accept (Dup 64 1 12 0 0 0))
+    ∷ []
