@@ -1,0 +1,205 @@
+//! From an instruction to a word.
+
+use crate::instruction::Instruction;
+use crate::layout::{self, layout_of};
+use crate::refusal::Refusal;
+use crate::setting::Setting;
+
+/// Refuses with 1, then 9, then 3. Any `u32` may stand in any field.
+pub fn encode(setting: Setting, instruction: Instruction) -> Result<u32, Refusal> {
+    if !setting.is_allowed() {
+        return Err(Refusal::Setting);
+    }
+    if !in_range(instruction) {
+        return Err(Refusal::Range);
+    }
+    // The ranges already imply the field condition: only a feature can miss.
+    if !layout::has_features(instruction.form(), setting) {
+        return Err(Refusal::Undefined);
+    }
+    Ok(layout_of(instruction.form()).value | field_bits(instruction))
+}
+
+/// Whether every field is in document 01's range for writing.
+pub fn in_range(instruction: Instruction) -> bool {
+    match instruction {
+        Instruction::Pext1 {
+            size,
+            portion,
+            counter,
+            pd,
+        } => size_index(size).is_some() && portion <= 3 && is_counter(counter) && is_predicate(pd),
+        Instruction::Pext2 {
+            size,
+            i1,
+            counter,
+            pd,
+        } => size_index(size).is_some() && i1 <= 1 && is_counter(counter) && is_predicate(pd),
+        Instruction::Dup {
+            size,
+            offset,
+            index,
+            pg,
+            pn,
+            pd,
+        } => {
+            // The size is tested first: 0 must divide nothing.
+            size_index(size).is_some()
+                && offset < 128 / size
+                && (12..=15).contains(&index)
+                && is_predicate(pg)
+                && is_predicate(pn)
+                && is_predicate(pd)
+        }
+        Instruction::Luti4c { size, i1, zn, zd } => {
+            (size == 16 || size == 32)
+                && i1 <= 1
+                && is_vector(zn)
+                && zd <= 28
+                && zd.is_multiple_of(4)
+        }
+        Instruction::Luti4s { size, i1, zn, zd } => {
+            size == 16 && i1 <= 1 && is_vector(zn) && (zd <= 3 || (16..=19).contains(&zd))
+        }
+        Instruction::Uqrshrnb {
+            size,
+            shift,
+            zn,
+            zd,
+        } => {
+            (size == 8 || size == 16 || size == 32)
+                && shift >= 1
+                && shift <= size
+                && is_vector(zn)
+                && is_vector(zd)
+        }
+    }
+}
+
+/// The bits of the fields in their places, for fields that are in range.
+fn field_bits(instruction: Instruction) -> u32 {
+    match instruction {
+        Instruction::Pext1 {
+            size,
+            portion,
+            counter,
+            pd,
+        } => size_bits(size) << 22 | portion << 8 | (counter - 8) << 5 | pd,
+        Instruction::Pext2 {
+            size,
+            i1,
+            counter,
+            pd,
+        } => size_bits(size) << 22 | i1 << 8 | (counter - 8) << 5 | pd,
+        Instruction::Dup {
+            size,
+            offset,
+            index,
+            pg,
+            pn,
+            pd,
+        } => {
+            // i1:tszh:tszl is the offset, then a 1, then a 0 for each
+            // doubling of the size beyond 8.
+            let imm = (2 * offset + 1) << size_bits(size);
+            let i1 = (imm >> 4) & 1;
+            let tszh = (imm >> 3) & 1;
+            let tszl = imm & 7;
+            i1 << 23 | tszh << 22 | tszl << 18 | (index - 12) << 16 | pg << 10 | pn << 5 | pd
+        }
+        Instruction::Luti4c { size, i1, zn, zd } => {
+            size_bits(size) << 12 | i1 << 16 | zn << 5 | (zd / 4) << 2
+        }
+        Instruction::Luti4s { size, i1, zn, zd } => {
+            // D is bit 4 of the register number, Zd its low two bits; both
+            // stand in the word where they stand in the number.
+            size_bits(size) << 12 | i1 << 16 | zn << 5 | (zd & 0x13)
+        }
+        Instruction::Uqrshrnb {
+            size,
+            shift,
+            zn,
+            zd,
+        } => {
+            // tszh:tszl:imm3
+            let amount = 2 * size - shift;
+            let tszh = amount >> 5;
+            let tszl_imm3 = amount & 0x1f;
+            tszh << 22 | tszl_imm3 << 16 | zn << 5 | zd
+        }
+    }
+}
+
+/// 0 to 3 for 8, 16, 32 and 64 bits.
+fn size_index(size: u32) -> Option<u32> {
+    match size {
+        8 => Some(0),
+        16 => Some(1),
+        32 => Some(2),
+        64 => Some(3),
+        _ => None,
+    }
+}
+
+/// The same for a size already known to be in range.
+fn size_bits(size: u32) -> u32 {
+    size_index(size).expect("the range was tested before")
+}
+
+fn is_predicate(register: u32) -> bool {
+    register <= 15
+}
+
+fn is_counter(register: u32) -> bool {
+    (8..=15).contains(&register)
+}
+
+fn is_vector(register: u32) -> bool {
+    register <= 31
+}
+
+#[cfg(test)]
+mod tests {
+    use super::*;
+    use crate::instruction::Form;
+    use crate::setting::FULL;
+
+    fn dup(fields: [u32; 6]) -> Instruction {
+        Instruction::from_fields(Form::Dup, fields)
+    }
+
+    #[test]
+    fn refusals_come_in_the_order_1_9_3() {
+        let good = dup([64, 1, 12, 0, 0, 0]);
+        let bad = dup([64, 2, 12, 0, 0, 0]);
+        let sve_only = Setting {
+            vl: 128,
+            features: 3,
+        };
+        let wrong = Setting {
+            vl: 128,
+            features: 35,
+        };
+        assert_eq!(encode(FULL, good), Ok(0x25e0_4000));
+        assert_eq!(encode(FULL, bad), Err(Refusal::Range));
+        assert_eq!(encode(sve_only, good), Err(Refusal::Undefined));
+        assert_eq!(encode(sve_only, bad), Err(Refusal::Range));
+        assert_eq!(encode(wrong, good), Err(Refusal::Setting));
+        assert_eq!(encode(wrong, bad), Err(Refusal::Setting));
+    }
+
+    #[test]
+    fn size_zero_divides_nothing() {
+        assert_eq!(encode(FULL, dup([0, 0, 12, 0, 0, 0])), Err(Refusal::Range));
+    }
+
+    #[test]
+    fn casts_do_not_let_values_in() {
+        for size in [264, 65544, (1 << 31) + 8] {
+            let instruction = dup([size, 0, 12, 0, 0, 0]);
+            assert_eq!(encode(FULL, instruction), Err(Refusal::Range));
+        }
+        let shift = Instruction::from_fields(Form::Uqrshrnb, [8, 264, 0, 0, 0, 0]);
+        assert_eq!(encode(FULL, shift), Err(Refusal::Range));
+    }
+}

@@ -1,0 +1,53 @@
+//! One question put to both programs, and the answer of this one.
+
+use crate::decode::decode;
+use crate::encode::encode;
+use crate::instruction::{Form, Instruction};
+use crate::refusal::DONE;
+use crate::setting::Setting;
+
+#[derive(Clone, Copy, Debug, PartialEq, Eq, Hash)]
+pub enum Question {
+    Decode {
+        setting: Setting,
+        word: u32,
+    },
+    Encode {
+        setting: Setting,
+        form: Form,
+        /// In the form's order, unused places 0.
+        fields: [u32; 6],
+    },
+}
+
+/// For decode: number, form (0 when refused), six fields (0 when refused).
+/// For encode: number, word (0 when refused), six zeros.
+pub type Answer = [u32; 8];
+
+impl Question {
+    pub fn setting(&self) -> Setting {
+        match *self {
+            Question::Decode { setting, .. } | Question::Encode { setting, .. } => setting,
+        }
+    }
+
+    pub fn answer(&self) -> Answer {
+        match *self {
+            Question::Decode { setting, word } => match decode(setting, word) {
+                Ok(instruction) => {
+                    let [a, b, c, d, e, f] = instruction.fields();
+                    [DONE, instruction.form().number(), a, b, c, d, e, f]
+                }
+                Err(refusal) => [refusal.number(), 0, 0, 0, 0, 0, 0, 0],
+            },
+            Question::Encode {
+                setting,
+                form,
+                fields,
+            } => match encode(setting, Instruction::from_fields(form, fields)) {
+                Ok(word) => [DONE, word, 0, 0, 0, 0, 0, 0],
+                Err(refusal) => [refusal.number(), 0, 0, 0, 0, 0, 0, 0],
+            },
+        }
+    }
+}

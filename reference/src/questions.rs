@@ -1,0 +1,460 @@
+//! The list of questions put to both programs.
+//!
+//! What must be asked is asked by construction, one function for each kind of
+//! case; the seed only fills in what may be anything. A question that comes up
+//! twice is kept once.
+
+use std::collections::HashSet;
+
+use crate::instruction::Form;
+use crate::question::Question;
+use crate::random::Random;
+use crate::samples;
+use crate::setting::{ALL_FEATURES, FULL, Setting, VECTOR_LENGTHS, features_are_allowed};
+
+pub const DEFAULT_SEED: u64 = 1;
+
+/// Feature numbers above 31. 287 is 256 + 31 and 65567 is 65536 + 31: a
+/// narrowing cast would let them in.
+pub const FEATURES_ABOVE: [u32; 16] = [
+    32,
+    33,
+    36,
+    63,
+    64,
+    128,
+    255,
+    256,
+    287,
+    65535,
+    65536,
+    65567,
+    1 << 24,
+    1 << 31,
+    (1 << 31) + 31,
+    u32::MAX,
+];
+
+/// Vector lengths that are not allowed, some of them allowed ones after a
+/// narrowing cast.
+pub const LENGTHS_NOT_ALLOWED: [u32; 20] = [
+    0,
+    1,
+    64,
+    127,
+    129,
+    192,
+    255,
+    384,
+    640,
+    2047,
+    2049,
+    4096,
+    65535,
+    65536,
+    65536 + 128,
+    65536 + 2048,
+    (1 << 24) + 256,
+    1 << 31,
+    (1 << 31) + 128,
+    u32::MAX,
+];
+
+/// The words printed in document 01: the points on the board and the lister's
+/// example.
+pub const PRINTED_WORDS: [u32; 16] = [
+    0xc08a_9000,
+    0xc08a_8000,
+    0xc08a_b000,
+    0xc09a_9000,
+    0xc09a_a000,
+    0x4528_3800,
+    0x452f_3800,
+    0x4560_3800,
+    0x457f_3800,
+    0x4520_3800,
+    0x252c_4000,
+    0x25e0_4000,
+    0x2520_741f,
+    0xc08b_9000,
+    0x2520_7010,
+    0x2520_4000,
+];
+
+/// Put into every field in turn. The first lines hold, for every field of
+/// every form, both ends of its range and the numbers next to them; then come
+/// numbers that are in a range after a cast to 8 or 16 bits, and extremes.
+const FIELD_VALUES: [u32; 59] = [
+    0,
+    1,
+    2,
+    3,
+    4,
+    5,
+    7,
+    8,
+    9,
+    11,
+    12,
+    13,
+    15,
+    16,
+    17,
+    18,
+    19,
+    20,
+    24,
+    27,
+    28,
+    29,
+    30,
+    31,
+    32,
+    33,
+    63,
+    64,
+    65,
+    127,
+    128,
+    255,
+    256,
+    256 + 1,
+    256 + 8,
+    256 + 12,
+    256 + 15,
+    256 + 16,
+    256 + 32,
+    256 + 64,
+    65535,
+    65536,
+    65536 + 1,
+    65536 + 8,
+    65536 + 12,
+    65536 + 16,
+    65536 + 32,
+    65536 + 64,
+    (1 << 24) + 8,
+    (1 << 31) - 1,
+    1 << 31,
+    (1 << 31) + 1,
+    (1 << 31) + 8,
+    (1 << 31) + 12,
+    (1 << 31) + 16,
+    u32::MAX - 15,
+    u32::MAX - 7,
+    u32::MAX - 3,
+    u32::MAX,
+];
+
+pub fn generate(seed: u64) -> Vec<Question> {
+    let mut list = List {
+        questions: Vec::new(),
+        seen: HashSet::new(),
+        random: Random::new(seed),
+    };
+    list.printed_words();
+    list.every_feature_number();
+    list.every_vector_length();
+    list.both_numbers_not_allowed();
+    list.every_value_of_every_word_field();
+    list.failing_conditions();
+    list.one_bit_away();
+    list.two_bits_away();
+    list.any_words();
+    list.values_in_every_field();
+    list.every_immediate();
+    list.several_fields_out_of_range();
+    list.fields_in_range();
+    list.questions
+}
+
+struct List {
+    questions: Vec<Question>,
+    seen: HashSet<Question>,
+    random: Random,
+}
+
+impl List {
+    fn add(&mut self, question: Question) {
+        if self.seen.insert(question) {
+            self.questions.push(question);
+        }
+    }
+
+    fn decode(&mut self, setting: Setting, word: u32) {
+        self.add(Question::Decode { setting, word });
+    }
+
+    fn encode(&mut self, setting: Setting, form: Form, fields: [u32; 6]) {
+        self.add(Question::Encode {
+            setting,
+            form,
+            fields,
+        });
+    }
+
+    fn any_length(&mut self) -> u32 {
+        self.random.pick(&VECTOR_LENGTHS)
+    }
+
+    /// All features and any allowed vector length.
+    fn all_features(&mut self) -> Setting {
+        Setting {
+            vl: self.any_length(),
+            features: ALL_FEATURES,
+        }
+    }
+
+    /// Fields with one outside its range: by the toss of a coin next to it, or
+    /// far off.
+    fn fields_out_of_range(&mut self, form: Form) -> [u32; 6] {
+        let mut fields = samples::fields_in_range(&mut self.random, form);
+        let place = self.random.below(form.field_count() as u32) as usize;
+        fields[place] = if self.random.coin() {
+            self.random.pick(samples::values_outside(form, place))
+        } else {
+            // 66 and above is in no range, whatever the field.
+            66 + self.random.below(u32::MAX - 66)
+        };
+        fields
+    }
+
+    /// Document 01's own words under every allowed feature number, and under
+    /// all features at every length.
+    fn printed_words(&mut self) {
+        for word in PRINTED_WORDS {
+            self.decode(FULL, word);
+            for features in (0..=ALL_FEATURES).filter(|&n| features_are_allowed(n)) {
+                self.decode(Setting { vl: 128, features }, word);
+            }
+        }
+        for vl in VECTOR_LENGTHS {
+            let word = self.random.pick(&PRINTED_WORDS);
+            let features = ALL_FEATURES;
+            self.decode(Setting { vl, features }, word);
+        }
+    }
+
+    /// Every form under every feature number and some above, at an allowed
+    /// length: words that match and that do not, fields in range and out.
+    fn every_feature_number(&mut self) {
+        for features in (0..=ALL_FEATURES).chain(FEATURES_ABOVE) {
+            for form in Form::ALL {
+                let vl = self.any_length();
+                let setting = Setting { vl, features };
+                self.ask_all_four(setting, form);
+            }
+        }
+    }
+
+    /// Every form at every length, allowed or not, under all features.
+    fn every_vector_length(&mut self) {
+        for vl in VECTOR_LENGTHS.into_iter().chain(LENGTHS_NOT_ALLOWED) {
+            for form in Form::ALL {
+                let features = ALL_FEATURES;
+                self.ask_all_four(Setting { vl, features }, form);
+            }
+        }
+    }
+
+    fn both_numbers_not_allowed(&mut self) {
+        for form in Form::ALL {
+            let vl = self.random.pick(&LENGTHS_NOT_ALLOWED);
+            let features = self.random.pick(&FEATURES_ABOVE);
+            self.ask_all_four(Setting { vl, features }, form);
+        }
+    }
+
+    fn ask_all_four(&mut self, setting: Setting, form: Form) {
+        let word = samples::matching_word(&mut self.random, form);
+        self.decode(setting, word);
+        let word = samples::near_miss(&mut self.random);
+        self.decode(setting, word);
+        let fields = samples::fields_in_range(&mut self.random, form);
+        self.encode(setting, form, fields);
+        let fields = self.fields_out_of_range(form);
+        self.encode(setting, form, fields);
+    }
+
+    /// Each field of a word through all its values, the others anything.
+    fn every_value_of_every_word_field(&mut self) {
+        for form in Form::ALL {
+            for &mask in samples::field_masks(form) {
+                for value in 0..1 << mask.count_ones() {
+                    let setting = self.all_features();
+                    let word = samples::matching_word(&mut self.random, form);
+                    self.decode(setting, (word & !mask) | samples::spread(value, mask));
+                }
+            }
+        }
+    }
+
+    /// Words with a form's fixed bits that fail its field condition.
+    fn failing_conditions(&mut self) {
+        for form in Form::ALL {
+            let (mask, values) = samples::failing_conditions(form);
+            for &value in values {
+                for _ in 0..8 {
+                    let setting = self.all_features();
+                    let word = samples::matching_word(&mut self.random, form);
+                    self.decode(setting, (word & !mask) | value);
+                }
+            }
+        }
+    }
+
+    /// Every single bit of two words for each form.
+    fn one_bit_away(&mut self) {
+        for form in Form::ALL {
+            for _ in 0..2 {
+                let setting = self.all_features();
+                let word = samples::matching_word(&mut self.random, form);
+                self.decode(setting, word);
+                for bit in 0..32 {
+                    self.decode(setting, word ^ (1 << bit));
+                }
+            }
+        }
+    }
+
+    fn two_bits_away(&mut self) {
+        for form in Form::ALL {
+            for _ in 0..90 {
+                let setting = self.all_features();
+                let word = samples::flipped_word(&mut self.random, form, 2);
+                self.decode(setting, word);
+            }
+        }
+    }
+
+    fn any_words(&mut self) {
+        for _ in 0..200 {
+            let setting = self.all_features();
+            let word = self.random.next_u32();
+            self.decode(setting, word);
+        }
+    }
+
+    /// Every field in turn given every one of `FIELD_VALUES`, the others in
+    /// range. Where a range hangs on the size, this is done for each size.
+    fn values_in_every_field(&mut self) {
+        for form in Form::ALL {
+            for place in 0..form.field_count() {
+                let by_size: &[u32] = match (form, place) {
+                    (Form::Dup, 1) => &[8, 16, 32, 64],
+                    (Form::Uqrshrnb, 1) => &[8, 16, 32],
+                    _ => &[],
+                };
+                if by_size.is_empty() {
+                    self.values_in_field(form, place, None);
+                }
+                for &size in by_size {
+                    self.values_in_field(form, place, Some(size));
+                }
+            }
+        }
+    }
+
+    fn values_in_field(&mut self, form: Form, place: usize, size: Option<u32>) {
+        for value in FIELD_VALUES {
+            let setting = self.all_features();
+            let mut fields = samples::fields_in_range(&mut self.random, form);
+            if let Some(size) = size {
+                fields[0] = size;
+            }
+            if place == 0 {
+                // The second field must be in range whatever the size is, so
+                // that only the size decides.
+                match form {
+                    Form::Dup => fields[1] = self.random.below(2),
+                    Form::Uqrshrnb => fields[1] = 1 + self.random.below(8),
+                    _ => {}
+                }
+            }
+            fields[place] = value;
+            self.encode(setting, form, fields);
+        }
+    }
+
+    /// DUP's offset and UQRSHRNB's shift at every value for every size, and
+    /// one too far at each end.
+    fn every_immediate(&mut self) {
+        for size in [8, 16, 32, 64] {
+            for offset in 0..=128 / size {
+                let setting = self.all_features();
+                let mut fields = samples::fields_in_range(&mut self.random, Form::Dup);
+                fields[0] = size;
+                fields[1] = offset;
+                self.encode(setting, Form::Dup, fields);
+            }
+        }
+        for size in [8, 16, 32] {
+            for shift in 0..=size + 1 {
+                let setting = self.all_features();
+                let mut fields = samples::fields_in_range(&mut self.random, Form::Uqrshrnb);
+                fields[0] = size;
+                fields[1] = shift;
+                self.encode(setting, Form::Uqrshrnb, fields);
+            }
+        }
+    }
+
+    /// Every field any number at all, or one of `FIELD_VALUES`.
+    fn several_fields_out_of_range(&mut self) {
+        for form in Form::ALL {
+            for _ in 0..10 {
+                let setting = self.all_features();
+                let mut fields = [0; 6];
+                let mut other = [0; 6];
+                for place in 0..form.field_count() {
+                    fields[place] = self.random.next_u32();
+                    other[place] = self.random.pick(&FIELD_VALUES);
+                }
+                self.encode(setting, form, fields);
+                self.encode(setting, form, other);
+            }
+        }
+    }
+
+    /// Fields in range, for each form under every allowed feature number and
+    /// more of them under all features.
+    fn fields_in_range(&mut self) {
+        for form in Form::ALL {
+            for features in (0..=ALL_FEATURES).filter(|&n| features_are_allowed(n)) {
+                let vl = self.any_length();
+                let fields = samples::fields_in_range(&mut self.random, form);
+                self.encode(Setting { vl, features }, form, fields);
+            }
+            for _ in 0..40 {
+                let setting = self.all_features();
+                let fields = samples::fields_in_range(&mut self.random, form);
+                self.encode(setting, form, fields);
+            }
+        }
+    }
+}
+
+#[cfg(test)]
+mod tests {
+    use super::*;
+
+    #[test]
+    fn the_seed_decides() {
+        assert_eq!(generate(7), generate(7));
+        assert_ne!(generate(7), generate(8));
+    }
+
+    #[test]
+    fn five_to_six_thousand_without_duplicates() {
+        for seed in [0, 1, 2, 3, u64::MAX] {
+            let questions = generate(seed);
+            assert!(
+                (5000..=6000).contains(&questions.len()),
+                "{}",
+                questions.len()
+            );
+            let distinct: HashSet<&Question> = questions.iter().collect();
+            assert_eq!(distinct.len(), questions.len());
+        }
+    }
+}

@@ -1,0 +1,278 @@
+//! Seeded words and fields to ask about.
+//!
+//! Words are made from masks and fields from their ranges, neither from the
+//! other by `encode` or `decode`, so that a slip there does not hide itself.
+
+use crate::decode::decode;
+use crate::instruction::Form;
+use crate::layout::{has_field_condition, layout_of};
+use crate::random::Random;
+use crate::setting::FULL;
+
+/// The bits of each field of a form in the word. DUP's size and offset share
+/// theirs, as do UQRSHRNB's size and shift, and LUTI4S has its destination in
+/// two pieces.
+pub fn field_masks(form: Form) -> &'static [u32] {
+    match form {
+        Form::Pext1 => &[0x00c0_0000, 0x300, 0xe0, 0xf],
+        Form::Pext2 => &[0x00c0_0000, 0x100, 0xe0, 0xf],
+        Form::Dup => &[0x00dc_0000, 0x0003_0000, 0x3c00, 0x1e0, 0xf],
+        Form::Luti4c => &[0x0001_0000, 0x3000, 0x3e0, 0x1c],
+        Form::Luti4s => &[0x0001_0000, 0x3000, 0x3e0, 0x13],
+        Form::Uqrshrnb => &[0x005f_0000, 0x3e0, 0x1f],
+    }
+}
+
+/// The bits the field condition looks at and the values that fail it.
+pub fn failing_conditions(form: Form) -> (u32, &'static [u32]) {
+    match form {
+        Form::Pext1 | Form::Pext2 => (0, &[]),
+        Form::Dup => (0x005c_0000, &[0]),
+        Form::Luti4c => (0x3000, &[0x0000, 0x3000]),
+        Form::Luti4s => (0x3000, &[0x0000, 0x2000, 0x3000]),
+        Form::Uqrshrnb => (0x0058_0000, &[0]),
+    }
+}
+
+/// A word with the form's fixed bits and its field condition.
+pub fn matching_word(random: &mut Random, form: Form) -> u32 {
+    let layout = layout_of(form);
+    loop {
+        let word = (random.next_u32() & !layout.mask) | layout.value;
+        if has_field_condition(form, word) {
+            return word;
+        }
+    }
+}
+
+/// A word with the form's fixed bits, failing its field condition; none for
+/// the forms without one.
+pub fn failing_word(random: &mut Random, form: Form) -> Option<u32> {
+    let (mask, values) = failing_conditions(form);
+    if values.is_empty() {
+        return None;
+    }
+    let word = matching_word(random, form);
+    Some((word & !mask) | random.pick(values))
+}
+
+/// A word one or two bits away from a matching one.
+pub fn flipped_word(random: &mut Random, form: Form, flips: u32) -> u32 {
+    let mut word = matching_word(random, form);
+    let first = random.below(32);
+    word ^= 1 << first;
+    if flips == 2 {
+        let second = (first + 1 + random.below(31)) % 32;
+        word ^= 1 << second;
+    }
+    word
+}
+
+/// A word that nearly matches and is undefined under all features.
+pub fn near_miss(random: &mut Random) -> u32 {
+    loop {
+        let form = random.pick(&Form::ALL);
+        let word = match random.below(3) {
+            0 => failing_word(random, form),
+            1 => Some(flipped_word(random, form, 1)),
+            _ => Some(flipped_word(random, form, 2)),
+        };
+        if let Some(word) = word
+            && decode(FULL, word).is_err()
+        {
+            return word;
+        }
+    }
+}
+
+/// Fields of the form, all in their ranges.
+pub fn fields_in_range(random: &mut Random, form: Form) -> [u32; 6] {
+    match form {
+        Form::Pext1 => [
+            random.pick(&[8, 16, 32, 64]),
+            random.below(4),
+            8 + random.below(8),
+            random.below(16),
+            0,
+            0,
+        ],
+        Form::Pext2 => [
+            random.pick(&[8, 16, 32, 64]),
+            random.below(2),
+            8 + random.below(8),
+            random.below(16),
+            0,
+            0,
+        ],
+        Form::Dup => {
+            let size = random.pick(&[8, 16, 32, 64]);
+            [
+                size,
+                random.below(128 / size),
+                12 + random.below(4),
+                random.below(16),
+                random.below(16),
+                random.below(16),
+            ]
+        }
+        Form::Luti4c => [
+            random.pick(&[16, 32]),
+            random.below(2),
+            random.below(32),
+            4 * random.below(8),
+            0,
+            0,
+        ],
+        Form::Luti4s => [
+            16,
+            random.below(2),
+            random.below(32),
+            16 * random.below(2) + random.below(4),
+            0,
+            0,
+        ],
+        Form::Uqrshrnb => {
+            let size = random.pick(&[8, 16, 32]);
+            [
+                size,
+                1 + random.below(size),
+                random.below(32),
+                random.below(32),
+                0,
+                0,
+            ]
+        }
+    }
+}
+
+/// Values near a field's range and outside it, whatever the other fields are.
+pub fn values_outside(form: Form, place: usize) -> &'static [u32] {
+    const PREDICATE: &[u32] = &[16, 17, 31];
+    const VECTOR: &[u32] = &[32, 33, 63];
+    const COUNTER: &[u32] = &[0, 1, 7, 16];
+    const ELEMENT_SIZE: &[u32] = &[0, 1, 4, 7, 9, 24, 63, 65, 128];
+    let by_place: [&[u32]; 6] = match form {
+        Form::Pext1 => [ELEMENT_SIZE, &[4, 5, 7], COUNTER, PREDICATE, &[], &[]],
+        Form::Pext2 => [ELEMENT_SIZE, &[2, 3], COUNTER, PREDICATE, &[], &[]],
+        Form::Dup => [
+            ELEMENT_SIZE,
+            &[16, 17, 31],
+            &[0, 3, 11, 16],
+            PREDICATE,
+            PREDICATE,
+            PREDICATE,
+        ],
+        Form::Luti4c => [
+            &[0, 1, 8, 15, 17, 24, 33, 64],
+            &[2, 3],
+            VECTOR,
+            &[1, 2, 3, 5, 27, 29, 30, 31, 32],
+            &[],
+            &[],
+        ],
+        Form::Luti4s => [
+            &[0, 1, 8, 15, 17, 32, 64],
+            &[2, 3],
+            VECTOR,
+            &[4, 7, 8, 12, 15, 20, 28, 31, 32],
+            &[],
+            &[],
+        ],
+        Form::Uqrshrnb => [
+            &[0, 1, 4, 7, 9, 24, 33, 64],
+            &[0, 33, 64],
+            VECTOR,
+            VECTOR,
+            &[],
+            &[],
+        ],
+    };
+    by_place[place]
+}
+
+/// Words for the lister: by the toss of a coin a matching word of any form,
+/// or else a near miss or any word at all.
+pub fn listing_words(seed: u64, count: u64) -> impl Iterator<Item = u32> {
+    let mut random = Random::new(seed);
+    (0..count).map(move |_| {
+        if random.coin() {
+            let form = random.pick(&Form::ALL);
+            matching_word(&mut random, form)
+        } else if random.coin() {
+            near_miss(&mut random)
+        } else {
+            random.next_u32()
+        }
+    })
+}
+
+/// The low bits of `value` moved to the places of the mask's bits.
+pub fn spread(value: u32, mask: u32) -> u32 {
+    let mut result = 0;
+    let mut next = 0; // the bit of `value` to place next
+    for place in 0..32 {
+        if mask >> place & 1 == 1 {
+            result |= (value >> next & 1) << place;
+            next += 1;
+        }
+    }
+    result
+}
+
+#[cfg(test)]
+mod tests {
+    use super::*;
+    use crate::encode::in_range;
+    use crate::instruction::Instruction;
+    use crate::layout::form_by_fixed_bits;
+
+    #[test]
+    fn field_masks_are_just_the_bits_that_are_not_fixed() {
+        for form in Form::ALL {
+            let mut all = 0;
+            for &mask in field_masks(form) {
+                assert_eq!(all & mask, 0);
+                all |= mask;
+            }
+            assert_eq!(all, !layout_of(form).mask);
+        }
+    }
+
+    #[test]
+    fn samples_are_what_they_are_called() {
+        let mut random = Random::new(11);
+        for _ in 0..500 {
+            for form in Form::ALL {
+                let word = matching_word(&mut random, form);
+                assert_eq!(decode(FULL, word).map(|i| i.form()), Ok(form));
+                let fields = fields_in_range(&mut random, form);
+                assert!(in_range(Instruction::from_fields(form, fields)));
+                for place in 0..form.field_count() {
+                    let mut fields = fields;
+                    fields[place] = random.pick(values_outside(form, place));
+                    assert!(!in_range(Instruction::from_fields(form, fields)));
+                }
+                if let Some(word) = failing_word(&mut random, form) {
+                    assert_eq!(form_by_fixed_bits(word), Some(form));
+                    assert!(decode(FULL, word).is_err());
+                }
+            }
+            assert!(decode(FULL, near_miss(&mut random)).is_err());
+        }
+    }
+
+    #[test]
+    fn about_half_of_the_listing_words_match() {
+        let matching = listing_words(1, 20_000)
+            .filter(|&word| decode(FULL, word).is_ok())
+            .count();
+        assert!((9_500..10_500).contains(&matching), "{matching}");
+    }
+
+    #[test]
+    fn spread_places_bits_in_order() {
+        assert_eq!(spread(0b101, 0x13), 0x11);
+        assert_eq!(spread(0b110, 0x13), 0x12);
+        assert_eq!(spread(31, 0x00dc_0000), 0x00dc_0000);
+    }
+}

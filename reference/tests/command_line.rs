@@ -1,0 +1,148 @@
+//! The binary itself: formats, wrong use, a reader that goes away.
+
+use std::io::{Read, Write};
+use std::process::{Child, Command, Output, Stdio};
+
+use reference::lister::list;
+use reference::questions::generate;
+use reference::samples::listing_words;
+use reference::text::{ANSWER_BYTES, QUESTION_BYTES, answer_line};
+
+fn start(arguments: &[&str]) -> Child {
+    Command::new(env!("CARGO_BIN_EXE_reference"))
+        .args(arguments)
+        .stdin(Stdio::piped())
+        .stdout(Stdio::piped())
+        .stderr(Stdio::piped())
+        .spawn()
+        .unwrap()
+}
+
+fn run(arguments: &[&str], input: &[u8]) -> Output {
+    let mut child = start(arguments);
+    let mut pipe = child.stdin.take().unwrap();
+    let input = input.to_vec();
+    let feeder = std::thread::spawn(move || {
+        // A program that stops early does not read it all.
+        let _ = pipe.write_all(&input);
+    });
+    let output = child.wait_with_output().unwrap();
+    feeder.join().unwrap();
+    output
+}
+
+#[test]
+fn questions_and_answers() {
+    let questions = run(&["questions", "5"], b"");
+    assert!(questions.status.success());
+    assert_eq!(questions.stdout.len(), generate(5).len() * QUESTION_BYTES);
+    let answers = run(&["answers"], &questions.stdout);
+    assert!(answers.status.success());
+    assert!(answers.stderr.is_empty());
+    let expected: String = generate(5)
+        .iter()
+        .map(|question| answer_line(&question.answer()))
+        .collect();
+    assert_eq!(answers.stdout.len(), generate(5).len() * ANSWER_BYTES);
+    assert_eq!(answers.stdout, expected.as_bytes());
+}
+
+/// Two lines written out by hand.
+#[test]
+fn answers_to_the_letter() {
+    let zeros = " 00000000".repeat(5);
+    let questions = format!(
+        "00000000 00000080 0000001f 25e04000{zeros}\n\
+         00000006 00000080 0000001f 00000008 00000008 00000000 00000000 00000000 00000000\n\
+         00000006 00000080 0000001f 00000008 00000009 00000000 00000000 00000000 00000000\n\
+         00000005 00000080 0000000f 00000010 00000000 00000000 00000010 00000000 00000000\n\
+         00000000 00010080 0000001f 25e04000{zeros}\n"
+    );
+    let none = " 00000000".repeat(7);
+    let expected = format!(
+        "00000000 00000003 00000040 00000001 0000000c 00000000 00000000 00000000\n\
+         00000000 45283800 00000000 00000000 00000000 00000000 00000000 00000000\n\
+         00000009{none}\n\
+         00000003{none}\n\
+         00000001{none}\n"
+    );
+    let answers = run(&["answers"], questions.as_bytes());
+    assert!(answers.status.success());
+    assert_eq!(String::from_utf8(answers.stdout).unwrap(), expected);
+}
+
+#[test]
+fn list_and_listing_words() {
+    let words = run(&["listing-words", "9", "30001"], b"");
+    assert!(words.status.success());
+    let expected: Vec<u8> = listing_words(9, 30001)
+        .flat_map(|word| word.to_le_bytes())
+        .collect();
+    assert_eq!(words.stdout, expected);
+    for cut in 0..4 {
+        let input = &expected[..expected.len() - cut];
+        let listed = run(&["list"], input);
+        assert!(listed.status.success());
+        assert_eq!(listed.stdout, list(input));
+    }
+}
+
+#[test]
+fn wrong_use_is_one_line_and_a_status() {
+    let wrong: [&[&str]; 9] = [
+        &[],
+        &["lst"],
+        &["list", "more"],
+        &["questions", "x"],
+        &["questions", "1", "2"],
+        &["questions", "-1"],
+        &["listing-words", "1"],
+        &["listing-words", "1", "18446744073709551616"],
+        &["answers", "file"],
+    ];
+    for arguments in wrong {
+        let output = run(arguments, b"");
+        assert!(!output.status.success(), "{arguments:?}");
+        assert!(output.stdout.is_empty());
+        let line = String::from_utf8(output.stderr).unwrap();
+        assert_eq!(line.matches('\n').count(), 1, "{line}");
+        assert!(line.ends_with('\n') && line.starts_with("reference: "));
+    }
+}
+
+#[test]
+fn spoilt_questions_are_named() {
+    let good = run(&["questions"], b"").stdout;
+    let mut spoilt = good[..3 * QUESTION_BYTES].to_vec();
+    spoilt[2 * QUESTION_BYTES + 4] = b'x';
+    let cut = &good[..QUESTION_BYTES + 5];
+    for (input, answered, place) in [(&spoilt[..], 2, "question 3:"), (cut, 1, "question 2:")] {
+        let output = run(&["answers"], input);
+        assert!(!output.status.success());
+        assert_eq!(output.stdout.len(), answered * ANSWER_BYTES);
+        let line = String::from_utf8(output.stderr).unwrap();
+        assert!(line.contains(place), "{line}");
+        assert_eq!(line.matches('\n').count(), 1);
+    }
+}
+
+#[test]
+fn a_reader_that_goes_away_causes_no_panic() {
+    let endless: [&[&str]; 2] = [&["listing-words", "1", "100000000"], &["questions"]];
+    for arguments in endless {
+        let mut child = start(arguments);
+        let mut first = [0u8; 16];
+        child
+            .stdout
+            .as_mut()
+            .unwrap()
+            .read_exact(&mut first)
+            .unwrap();
+        drop(child.stdout.take());
+        let mut complaint = String::new();
+        let mut stderr = child.stderr.take().unwrap();
+        stderr.read_to_string(&mut complaint).unwrap();
+        assert!(child.wait().unwrap().success(), "{arguments:?}");
+        assert_eq!(complaint, "");
+    }
+}

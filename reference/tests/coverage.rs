@@ -1,0 +1,269 @@
+//! Whether the questions ask what they are meant to ask, for several seeds.
+
+use std::collections::HashSet;
+
+use reference::decode::decode;
+use reference::instruction::Form;
+use reference::layout::{form_by_fixed_bits, layout_of};
+use reference::question::Question;
+use reference::questions::{FEATURES_ABOVE, LENGTHS_NOT_ALLOWED, PRINTED_WORDS, generate};
+use reference::samples::{failing_conditions, field_masks, spread};
+use reference::setting::{FULL, Setting, VECTOR_LENGTHS, vl_is_allowed};
+use reference::text::{QUESTION_BYTES, question_line, read_question};
+
+const SEEDS: [u64; 3] = [1, 77, u64::MAX];
+
+fn decodes(questions: &[Question]) -> Vec<(Setting, u32)> {
+    questions
+        .iter()
+        .filter_map(|question| match *question {
+            Question::Decode { setting, word } => Some((setting, word)),
+            Question::Encode { .. } => None,
+        })
+        .collect()
+}
+
+fn encodes(questions: &[Question]) -> Vec<(Setting, Form, [u32; 6])> {
+    questions
+        .iter()
+        .filter_map(|question| match *question {
+            Question::Decode { .. } => None,
+            Question::Encode {
+                setting,
+                form,
+                fields,
+            } => Some((setting, form, fields)),
+        })
+        .collect()
+}
+
+/// Which answer numbers come up for these questions.
+fn numbers<'a>(questions: impl Iterator<Item = &'a Question>) -> HashSet<u32> {
+    questions.map(|question| question.answer()[0]).collect()
+}
+
+#[test]
+fn every_feature_number_for_every_form() {
+    for seed in SEEDS {
+        let questions = generate(seed);
+        for features in (0..32).chain(FEATURES_ABOVE) {
+            for form in Form::ALL {
+                let here =
+                    |setting: Setting| setting.features == features && vl_is_allowed(setting.vl);
+                let word_asked = decodes(&questions).into_iter().any(|(setting, word)| {
+                    here(setting) && decode(FULL, word).map(|i| i.form()) == Ok(form)
+                });
+                assert!(word_asked, "{features} {form:?}");
+                // In range and out of it, told apart by what full features
+                // answer.
+                let asked: HashSet<u32> = encodes(&questions)
+                    .into_iter()
+                    .filter(|&(setting, asked, _)| here(setting) && asked == form)
+                    .map(|(_, form, fields)| {
+                        let full = Question::Encode {
+                            setting: FULL,
+                            form,
+                            fields,
+                        };
+                        full.answer()[0]
+                    })
+                    .collect();
+                assert_eq!(asked, HashSet::from([0, 9]), "{features} {form:?}");
+            }
+        }
+    }
+}
+
+#[test]
+fn every_vector_length_for_every_form() {
+    for seed in SEEDS {
+        let questions = generate(seed);
+        for vl in VECTOR_LENGTHS.into_iter().chain(LENGTHS_NOT_ALLOWED) {
+            let setting = Setting { vl, features: 31 };
+            let of_words = numbers(
+                questions
+                    .iter()
+                    .filter(|q| q.setting() == setting && matches!(q, Question::Decode { .. })),
+            );
+            let expected: &[u32] = if vl_is_allowed(vl) { &[0, 3] } else { &[1] };
+            assert_eq!(of_words, expected.iter().copied().collect(), "{vl}");
+            for form in Form::ALL {
+                let asked = encodes(&questions)
+                    .into_iter()
+                    .any(|(s, f, _)| s == setting && f == form);
+                assert!(asked, "{vl} {form:?}");
+            }
+        }
+    }
+}
+
+#[test]
+fn refusals_compete_in_encode() {
+    for seed in SEEDS {
+        let questions = generate(seed);
+        for form in Form::ALL {
+            // A missing feature, with fields in range and not.
+            let missing: HashSet<u32> = numbers(questions.iter().filter(|question| {
+                matches!(question, Question::Encode { form: asked, .. } if *asked == form)
+                    && question.setting().features == 0
+            }));
+            assert_eq!(missing, HashSet::from([3, 9]), "{form:?}");
+        }
+    }
+}
+
+#[test]
+fn printed_words_under_full_and_reduced_features() {
+    for seed in SEEDS {
+        let asked: HashSet<(Setting, u32)> = decodes(&generate(seed)).into_iter().collect();
+        for word in PRINTED_WORDS {
+            assert!(asked.contains(&(FULL, word)));
+            for features in [0, 1, 3, 4, 12, 15, 28] {
+                assert!(asked.contains(&(Setting { vl: 128, features }, word)));
+            }
+        }
+    }
+}
+
+#[test]
+fn every_value_of_every_word_field() {
+    for seed in SEEDS {
+        let words: Vec<u32> = decodes(&generate(seed)).iter().map(|&(_, w)| w).collect();
+        for form in Form::ALL {
+            for &mask in field_masks(form) {
+                for value in 0..1 << mask.count_ones() {
+                    let place = spread(value, mask);
+                    let asked = words
+                        .iter()
+                        .any(|&w| form_by_fixed_bits(w) == Some(form) && w & mask == place);
+                    assert!(asked, "{form:?} {mask:08x} {value}");
+                }
+            }
+            let (mask, values) = failing_conditions(form);
+            for &value in values {
+                let count = words
+                    .iter()
+                    .filter(|&&w| form_by_fixed_bits(w) == Some(form) && w & mask == value)
+                    .count();
+                assert!(count >= 5, "{form:?} {value:08x}");
+            }
+        }
+    }
+}
+
+#[test]
+fn every_bit_of_a_word_of_every_form() {
+    for seed in SEEDS {
+        let words: HashSet<u32> = decodes(&generate(seed)).iter().map(|&(_, w)| w).collect();
+        for form in Form::ALL {
+            let found = words.iter().any(|&word| {
+                decode(FULL, word).map(|i| i.form()) == Ok(form)
+                    && (0..32).all(|bit| words.contains(&(word ^ (1 << bit))))
+            });
+            assert!(found, "{form:?}");
+            // Words with just two fixed bits wrong.
+            let layout = layout_of(form);
+            let two_wrong = words
+                .iter()
+                .filter(|&&word| ((word ^ layout.value) & layout.mask).count_ones() == 2)
+                .count();
+            assert!(two_wrong >= 10, "{form:?}");
+        }
+    }
+}
+
+/// Document 01's ranges by hand: for each field values at the ends of its
+/// range and outside it. Each must be asked with everything else in order.
+#[test]
+fn ends_of_every_field() {
+    use Form::*;
+    let extremes = [1 << 31, u32::MAX];
+    let element_sizes: (&[u32], &[u32]) = (
+        &[8, 16, 32, 64],
+        &[0, 1, 4, 7, 9, 24, 65, 128, 264, 272, 288, 320, 65544, 65552],
+    );
+    let predicate: (&[u32], &[u32]) = (&[0, 15], &[16, 17, 256, 65536]);
+    let vector: (&[u32], &[u32]) = (&[0, 31], &[32, 33, 256, 65536]);
+    let counter: (&[u32], &[u32]) = (&[8, 15], &[0, 7, 16, 264, 65544]);
+    let i1: (&[u32], &[u32]) = (&[0, 1], &[2, 256, 257, 65537]);
+    // form, place, values in range, values outside, fixed size
+    type Row<'a> = (Form, usize, (&'a [u32], &'a [u32]), Option<u32>);
+    let rows: Vec<Row> = vec![
+        (Pext1, 0, element_sizes, None),
+        (Pext1, 1, (&[0, 1, 2, 3], &[4, 256, 65536]), None),
+        (Pext1, 2, counter, None),
+        (Pext1, 3, predicate, None),
+        (Pext2, 0, element_sizes, None),
+        (Pext2, 1, i1, None),
+        (Pext2, 2, counter, None),
+        (Pext2, 3, predicate, None),
+        (Dup, 0, element_sizes, None),
+        (Dup, 1, (&[0, 15], &[16, 17, 256, 65536]), Some(8)),
+        (Dup, 1, (&[0, 7], &[8, 9, 256, 65536]), Some(16)),
+        (Dup, 1, (&[0, 3], &[4, 5, 256, 65536]), Some(32)),
+        (Dup, 1, (&[0, 1], &[2, 3, 256, 65536]), Some(64)),
+        (Dup, 2, (&[12, 13, 15], &[0, 11, 16, 268, 65548]), None),
+        (Dup, 3, predicate, None),
+        (Dup, 4, predicate, None),
+        (Dup, 5, predicate, None),
+        (Luti4c, 0, (&[16, 32], &[0, 8, 64, 272, 65552]), None),
+        (Luti4c, 1, i1, None),
+        (Luti4c, 2, vector, None),
+        (
+            Luti4c,
+            3,
+            (&[0, 4, 24, 28], &[1, 2, 3, 27, 29, 30, 31, 32]),
+            None,
+        ),
+        (
+            Luti4s,
+            0,
+            (&[16], &[0, 8, 15, 17, 32, 64, 272, 65552]),
+            None,
+        ),
+        (Luti4s, 1, i1, None),
+        (Luti4s, 2, vector, None),
+        (Luti4s, 3, (&[0, 3, 16, 19], &[4, 15, 20, 31, 32]), None),
+        (
+            Uqrshrnb,
+            0,
+            (&[8, 16, 32], &[0, 4, 7, 9, 64, 264, 65552]),
+            None,
+        ),
+        (Uqrshrnb, 1, (&[1, 8], &[0, 9, 16, 264, 65544]), Some(8)),
+        (Uqrshrnb, 1, (&[1, 16], &[0, 17, 32, 272, 65552]), Some(16)),
+        (Uqrshrnb, 1, (&[1, 32], &[0, 33, 64, 288, 65568]), Some(32)),
+        (Uqrshrnb, 2, vector, None),
+        (Uqrshrnb, 3, vector, None),
+    ];
+    for seed in SEEDS {
+        let questions = generate(seed);
+        for &(form, place, (inside, outside), size) in &rows {
+            let asked = |value: u32| -> HashSet<u32> {
+                numbers(questions.iter().filter(|question| {
+                    matches!(question, Question::Encode { form: f, fields, setting }
+                        if *f == form
+                            && fields[place] == value
+                            && setting.features == 31
+                            && vl_is_allowed(setting.vl)
+                            && size.is_none_or(|size| fields[0] == size))
+                }))
+            };
+            for &value in inside {
+                assert!(asked(value).contains(&0), "{form:?} {place} {value}");
+            }
+            for &value in outside.iter().chain(&extremes) {
+                assert_eq!(asked(value), HashSet::from([9]), "{form:?} {place} {value}");
+            }
+        }
+    }
+}
+
+#[test]
+fn questions_survive_the_text() {
+    for question in generate(3) {
+        let line = question_line(&question);
+        let bytes: [u8; QUESTION_BYTES] = line.as_bytes().try_into().unwrap();
+        assert_eq!(read_question(&bytes), Ok(question));
+    }
+}

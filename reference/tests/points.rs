@@ -1,0 +1,156 @@
+//! Document 01's points on the board, as far as decoding goes. What is
+//! expected here is taken from the document, not from the program.
+
+use reference::decode::decode;
+use reference::encode::encode;
+use reference::instruction::Instruction;
+use reference::refusal::Refusal;
+use reference::setting::{FULL, Setting};
+
+const ALLOWED: [u32; 12] = [0, 1, 3, 4, 5, 7, 12, 13, 15, 28, 29, 31];
+
+fn with(features: u32) -> Setting {
+    Setting { vl: 128, features }
+}
+
+#[test]
+fn point_1() {
+    let expected = Instruction::Luti4c {
+        size: 16,
+        i1: 0,
+        zn: 0,
+        zd: 0,
+    };
+    assert_eq!(decode(FULL, 0xc08a_9000), Ok(expected));
+    assert_eq!(decode(FULL, 0xc08a_8000), Err(Refusal::Undefined));
+    assert_eq!(decode(FULL, 0xc08a_b000), Err(Refusal::Undefined));
+}
+
+#[test]
+fn point_2() {
+    let expected = Instruction::Luti4s {
+        size: 16,
+        i1: 0,
+        zn: 0,
+        zd: 0,
+    };
+    for features in ALLOWED {
+        let found = decode(with(features), 0xc09a_9000);
+        if features & 16 != 0 {
+            assert_eq!(found, Ok(expected));
+        } else {
+            assert_eq!(found, Err(Refusal::Undefined));
+        }
+        assert_eq!(decode(with(features), 0xc09a_a000), Err(Refusal::Undefined));
+    }
+}
+
+#[test]
+fn point_3() {
+    let cases = [
+        (0x4528_3800, 8, 8),
+        (0x452f_3800, 8, 1),
+        (0x4560_3800, 32, 32),
+        (0x457f_3800, 32, 1),
+    ];
+    for (word, size, shift) in cases {
+        let expected = Instruction::Uqrshrnb {
+            size,
+            shift,
+            zn: 0,
+            zd: 0,
+        };
+        assert_eq!(decode(FULL, word), Ok(expected));
+        assert_eq!(encode(FULL, expected), Ok(word));
+    }
+    assert_eq!(decode(FULL, 0x4520_3800), Err(Refusal::Undefined));
+}
+
+#[test]
+fn point_10() {
+    // tszh:tszl is 0011, so xxx1: size 8, offset 001.
+    let first = Instruction::Dup {
+        size: 8,
+        offset: 1,
+        index: 12,
+        pg: 0,
+        pn: 0,
+        pd: 0,
+    };
+    // Element 0 for W12 = ffffffff: the whole sum, then modulo 16 elements.
+    assert_eq!((0xffff_ffffu64 + 1) % 16, 0);
+    assert_eq!(decode(FULL, 0x252c_4000), Ok(first));
+    let second = Instruction::Dup {
+        size: 64,
+        offset: 1,
+        index: 12,
+        pg: 0,
+        pn: 0,
+        pd: 0,
+    };
+    assert_eq!(decode(FULL, 0x25e0_4000), Ok(second));
+    assert_eq!(encode(FULL, second), Ok(0x25e0_4000));
+}
+
+#[test]
+fn points_11_and_12() {
+    let pair = Instruction::Pext2 {
+        size: 8,
+        i1: 0,
+        counter: 8,
+        pd: 15,
+    };
+    assert_eq!(decode(FULL, 0x2520_741f), Ok(pair));
+    // i1 is kept although it has no effect at this size.
+    let lookup = Instruction::Luti4c {
+        size: 16,
+        i1: 1,
+        zn: 0,
+        zd: 0,
+    };
+    assert_eq!(decode(FULL, 0xc08b_9000), Ok(lookup));
+    assert_eq!(encode(FULL, lookup), Ok(0xc08b_9000));
+}
+
+#[test]
+fn words_of_the_listing() {
+    let pext = Instruction::Pext1 {
+        size: 8,
+        portion: 0,
+        counter: 8,
+        pd: 0,
+    };
+    assert_eq!(decode(FULL, 0x2520_7010), Ok(pext));
+    // DUP's fixed bits, but tszh:tszl is 0000.
+    assert_eq!(decode(FULL, 0x2520_4000), Err(Refusal::Undefined));
+}
+
+/// A word of each form, and the allowed feature numbers it is defined under.
+#[test]
+fn features_of_each_form() {
+    let cases: [(u32, &[u32]); 6] = [
+        (0x2520_7010, &[3, 7, 12, 13, 15, 28, 29, 31]),
+        (0x2520_741f, &[3, 7, 12, 13, 15, 28, 29, 31]),
+        (0x252c_4000, &[4, 5, 7, 12, 13, 15, 28, 29, 31]),
+        (0xc08a_9000, &[12, 13, 15, 28, 29, 31]),
+        (0xc09a_9000, &[28, 29, 31]),
+        (0x4528_3800, &[1, 3, 4, 5, 7, 12, 13, 15, 28, 29, 31]),
+    ];
+    for (word, defined) in cases {
+        let instruction = decode(FULL, word).unwrap();
+        for features in 0..300 {
+            let decoded = decode(with(features), word);
+            let encoded = encode(with(features), instruction);
+            if !ALLOWED.contains(&features) {
+                assert_eq!(decoded, Err(Refusal::Setting));
+                assert_eq!(encoded, Err(Refusal::Setting));
+            } else if !defined.contains(&features) {
+                assert_eq!(decoded, Err(Refusal::Undefined));
+                assert_eq!(encoded, Err(Refusal::Undefined));
+            } else {
+                assert_eq!(decoded, Ok(instruction));
+                assert_eq!(encoded, Ok(word));
+            }
+        }
+    }
+}

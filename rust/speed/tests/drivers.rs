@@ -1,0 +1,100 @@
+//! The drivers on programs that are no listers, so that they must notice.
+
+use std::process::{Command, Output};
+
+fn listcheck(arguments: &[&str]) -> Output {
+    Command::new(env!("CARGO_BIN_EXE_listcheck"))
+        .args(arguments)
+        .output()
+        .unwrap()
+}
+
+fn listspeed(arguments: &[&str]) -> Output {
+    Command::new(env!("CARGO_BIN_EXE_listspeed"))
+        .args(arguments)
+        .output()
+        .unwrap()
+}
+
+fn text(bytes: &[u8]) -> String {
+    String::from_utf8(bytes.to_vec()).unwrap()
+}
+
+#[test]
+fn listcheck_names_the_smallest_input() {
+    // Nothing is right for no bytes, but not for one.
+    for wrong in ["true", "cat"] {
+        let output = listcheck(&[wrong]);
+        assert_eq!(output.status.code(), Some(1));
+        let report = text(&output.stdout);
+        assert!(report.contains("fails on 1 bytes (zeros), given as a file"));
+        assert!(
+            report.contains("line 1 should be \"SHORT 1\\n\""),
+            "{report}"
+        );
+        assert!(report.contains("input: 00\n"));
+    }
+}
+
+#[test]
+fn listcheck_sees_the_status() {
+    let output = listcheck(&["false"]);
+    assert_eq!(output.status.code(), Some(1));
+    let report = text(&output.stdout);
+    assert!(report.contains("fails on 0 bytes"), "{report}");
+    assert!(report.contains("exit status: 1"), "{report}");
+}
+
+#[test]
+fn listcheck_sees_too_much() {
+    // Prints without end, whatever comes in.
+    let output = listcheck(&["yes"]);
+    assert_eq!(output.status.code(), Some(1));
+    let report = text(&output.stdout);
+    assert!(
+        report.contains("fails on 0 bytes") && report.contains("and is \"y\\n\""),
+        "{report}"
+    );
+}
+
+#[test]
+fn listspeed_times_equal_programs() {
+    let output = listspeed(&["cat", "cat", "Cargo.toml", "2"]);
+    assert!(output.status.success());
+    let report = text(&output.stdout);
+    assert!(report.starts_with("outputs equal: "), "{report}");
+    for part in ["proved: minimum", "fast:   minimum", "ratio of medians"] {
+        assert!(report.contains(part), "{report}");
+    }
+}
+
+#[test]
+fn listspeed_refuses_different_programs() {
+    let output = listspeed(&["cat", "true", "Cargo.toml"]);
+    assert_eq!(output.status.code(), Some(1));
+    assert!(output.stdout.is_empty());
+    let line = text(&output.stderr);
+    assert!(line.contains("the outputs differ in line 1"), "{line}");
+    // The right output and a wrong status will not do either.
+    let output = listspeed(&["false", "true", "Cargo.toml"]);
+    assert_eq!(output.status.code(), Some(1));
+    assert!(text(&output.stderr).contains("false: exit status: 1"));
+}
+
+#[test]
+fn wrong_use_is_one_line_and_a_status() {
+    let outputs = [
+        listcheck(&[]),
+        listcheck(&["cat", "x"]),
+        listcheck(&["no-such-program"]),
+        listspeed(&["cat", "cat"]),
+        listspeed(&["cat", "cat", "Cargo.toml", "0"]),
+        listspeed(&["cat", "cat", "no-such-file"]),
+        listspeed(&["cat", "no-such-program", "Cargo.toml"]),
+    ];
+    for output in outputs {
+        assert!(!output.status.success());
+        assert!(output.stdout.is_empty());
+        assert_eq!(text(&output.stderr).matches('\n').count(), 1);
+    }
+}
