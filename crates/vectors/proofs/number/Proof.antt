@@ -1,0 +1,62 @@
+-- `number` is safe and ends: i is at most 8, so each digit lies in its place of the line.
+use Prim.Native.Nat.{_≤_, _-_}
+use borrow.Author.Needs.{needs}
+use Rattle.vectors.proofs.number.Statement.{statement}
+use Rattle.vectors.proofs.number.Tie as tie
+
+abbrev Inv-loop : tie.InvT-loop
+Inv-loop line place value₀ i₀ value i = i ≤ 8
+
+abbrev μ-loop : tie.MeasureT-loop
+μ-loop line place value₀ i₀ value i = 8 - i
+
+loop-holds : tie.Need-loop-holds Inv-loop μ-loop
+loop-holds c = search needs
+
+mul-value : tie.Need-mul-value Inv-loop μ-loop
+mul-value c = search needs
+
+mul-digit-of : tie.Need-mul-digit-of Inv-loop μ-loop
+mul-digit-of c = search needs
+
+add-digit-of : tie.Need-add-digit-of Inv-loop μ-loop
+add-digit-of c = search needs
+
+element-copy-out-digit-of : tie.Need-element-copy-out-digit-of Inv-loop μ-loop
+element-copy-out-digit-of c = search needs
+
+digit-of-requires : tie.Need-digit-of-requires Inv-loop μ-loop
+digit-of-requires c κs = search needs
+
+add-value : tie.Need-add-value Inv-loop μ-loop
+add-value c = search needs
+
+add-i : tie.Need-add-i Inv-loop μ-loop
+add-i c = search needs
+
+loop-less : tie.Need-loop-less Inv-loop μ-loop
+loop-less c = search needs
+
+loop-again : tie.Need-loop-again Inv-loop μ-loop
+loop-again c = search needs
+
+returns : tie.Need-returns Inv-loop μ-loop
+returns c = search needs
+
+pub number-spec : {M : Type 1} → statement M
+number-spec =
+    tie.close
+    (tie.spec
+    Inv-loop
+    μ-loop
+    loop-holds
+    mul-value
+    mul-digit-of
+    add-digit-of
+    element-copy-out-digit-of
+    digit-of-requires
+    add-value
+    add-i
+    loop-less
+    loop-again
+    returns)
