@@ -9,6 +9,7 @@ ghost use mathlib.Core.Path.{_≡_};
 ghost use Rattle.setting.specs.Numbers.{numberOf};
 ghost use Rattle.encoding.specs.Decode.{decodeOf, decodedAs};
 ghost use Rattle.encoding.specs.Encode.{unwritten, encodeOf, encodedAs};
+ghost use Rattle.encoding.specs.Forms.{placeOf};
 ghost use Rattle.encoding.specs.Claims.{Claims};
 use setting::Answer;
 use setting::Setting;
@@ -110,6 +111,20 @@ pub fn encode(setting: Setting, instruction: Instruction) -> Encoded
     Encoded {
         answer: Answer::Done,
         word: words::word_of(instruction),
+    }
+}
+
+// The place of an instruction's form in document 01's table, from 0.
+pub fn place(instruction: Instruction) -> usize
+    ensures { λ r. ⌜ r ≡ placeOf instruction ⌝ }
+{
+    match instruction {
+        Instruction::Pext1 { .. } => 0,
+        Instruction::Pext2 { .. } => 1,
+        Instruction::Dup { .. } => 2,
+        Instruction::Luti4c { .. } => 3,
+        Instruction::Luti4s { .. } => 4,
+        Instruction::Uqrshrnb { .. } => 5,
     }
 }
 
