@@ -7,7 +7,6 @@ ghost use Rattle.listing.specs.Name.{nameIndex};
 ghost use Rattle.listing.specs.Lines.{nameLine, wordOf, linesOf};
 ghost use Rattle.listing.specs.Buffer.{Wrote, listedOf, outOf, carriedOf};
 ghost use Rattle.listing.specs.Claims.{LinesAppend};
-use encoding::Decoded;
 use setting::Setting;
 
 // How many bytes of the input were listed, and how many bytes of text that gave.
@@ -40,14 +39,13 @@ const GLYPHS: [u8; 16] = [
 fn name_index(word: u32) -> usize
     ensures { λ r. ⌜ (r ≡ nameIndex word) × (r < 7) ⌝ }
 {
-    let all_on = Setting {
-        vl: 128,
-        features: 31,
-    };
-    match encoding::decode(all_on, word) {
-        Decoded::Fields(instruction) => encoding::place(instruction),
-        Decoded::Refused(_) => 6,
-    }
+    encoding::form(
+        Setting {
+            vl: 128,
+            features: 31,
+        },
+        word,
+    )
 }
 
 // The table is lent, so that the eight digits of a word share one.
