@@ -1,8 +1,8 @@
--- Among rows whose layouts are pairwise apart at most one layout matches a word, so the first row that matches is the row of that layout: by induction on the rows.
+-- The first row that matches, and that among layouts pairwise apart at most one matches, so that a row that matches is the first: by induction on the rows.
 use mathlib.Core.Path.{_≡_, refl, sym, ap}
 use mathlib.Core.Bool.{Bool, true, false, _&&_}
 use mathlib.Core.List.{List, [], _∷_}
-use Prim.Native.Nat.{ℕ, zero, suc, _≤_}
+use Prim.Native.Nat.{ℕ, zero, suc, _≤_, _<_}
 use native.Mathlib.Omega.{arith}
 use lib.Dec.{T}
 use lib.ListN.{length}
@@ -10,7 +10,7 @@ use Rattle.setting.specs.Numbers.{Outcome, accept, refuse}
 use Rattle.element.proofs.Below.{both}
 use Rattle.encoding.specs.Layout.{fieldsOf, matches}
 use Rattle.encoding.specs.Rows.{Row, rowMatches}
-use Rattle.encoding.specs.Forms.{formAt, tryFields}
+use Rattle.encoding.specs.Forms.{placeFirst}
 use Rattle.encoding.specs.Decode.{firstOf}
 use Rattle.encoding.specs.Claims.{noRow, countRows}
 use Rattle.encoding.specs.declared.Instruction.{Instruction}
@@ -26,20 +26,34 @@ abbrev pub disjoint : List Row → Bool
 disjoint [] = true
 disjoint (r ∷ rs) = apartFrom r rs && disjoint rs
 
-abbrev pub matchesAt : List Row → ℕ → ℕ → Bool
-matchesAt [] k w = false
-matchesAt (r ∷ rs) zero w = matches (r .layout) w
-matchesAt (r ∷ rs) (suc k) w = matchesAt rs k w
+-- the row at a place matches; what it reads there
+abbrev pub matchesAt : List Row → ℕ → ℕ → ℕ → Bool
+matchesAt [] k f w = false
+matchesAt (r ∷ rs) zero f w = rowMatches r f w
+matchesAt (r ∷ rs) (suc k) f w = matchesAt rs k f w
 
-abbrev pub tryAt : List Row → ℕ → ℕ → ℕ → Outcome Instruction
-tryAt [] k f w = refuse 3
-tryAt (r ∷ rs) zero f w = tryFields r f w
-tryAt (r ∷ rs) (suc k) f w = tryAt rs k f w
+abbrev pub readAt : List Row → ℕ → ℕ → Outcome Instruction
+readAt [] k w = refuse 3
+readAt (r ∷ rs) zero w = accept (r .reading (fieldsOf (r .layout) w))
+readAt (r ∷ rs) (suc k) w = readAt rs k w
 
-pub try-past : (rs : List Row) (k f w : ℕ) → length rs ≤ k → tryAt rs k f w ≡ refuse 3
-try-past [] k f w h = refl
-try-past (r ∷ rs) zero f w h = absurd (omega arith)
-try-past (r ∷ rs) (suc k) f w h = try-past rs k f w (omega arith)
+pub read-past : (rs : List Row) (k w : ℕ) → length rs ≤ k → readAt rs k w ≡ refuse 3
+read-past [] k w h = refl
+read-past (r ∷ rs) zero w h = absurd (omega arith)
+read-past (r ∷ rs) (suc k) w h = read-past rs k w (omega arith)
+
+-- what is read is what the first row that matches reads
+pub first-is-read : (rs : List Row) (f w : ℕ) → firstOf rs f w ≡ readAt rs (placeFirst rs f w) w
+unfolding placeFirst
+first-is-read [] f w = refl
+first-is-read (r ∷ rs) f w = decide (rowMatches r f w) (λ m. simp m) (λ m. simp m (first-is-read rs f w))
+
+pub first-matches : (rs : List Row) (k f w : ℕ) → k < length rs → k ≡ placeFirst rs f w → matchesAt rs k f w ≡ true
+unfolding placeFirst
+first-matches [] k f w h e = absurd (omega arith)
+first-matches (r ∷ rs) zero f w h e = decide (rowMatches r f w) (λ m. m) (λ m. absurd (omega (arith, simp m at e)))
+first-matches (r ∷ rs) (suc k) f w h e =
+    decide (rowMatches r f w) (λ m. absurd (omega (arith, simp m at e))) (λ m. first-matches rs k f w (omega arith) (omega (arith, simp m at e)))
 
 own-sound : (r : Row) (rs : List Row) → T (apartFrom r rs) → T (sound (r .layout))
 own-sound r [] a = a
@@ -57,34 +71,25 @@ pub none-first : (rs : List Row) (f w : ℕ) → noRow (λ r. rowMatches r f w) 
 none-first [] f w n = refl
 none-first (r ∷ rs) f w n = simp (n .0) (none-first rs f w (n .1))
 
-no-layout-no-row : (rs : List Row) (f w : ℕ) → noRow (λ r. matches (r .layout) w) rs → noRow (λ r. rowMatches r f w) rs
-no-layout-no-row [] f w n = tt
-no-layout-no-row (r ∷ rs) f w n = (simp (n .0), no-layout-no-row rs f w (n .1))
+-- a row's layout matches where the row does
+layout-matches : (r : Row) (f w : ℕ) → rowMatches r f w ≡ true → matches (r .layout) w ≡ true
+layout-matches r f w m = decide (matches (r .layout) w) (λ l. l) (λ l. let c = simp l at m in cc)
 
--- what the first row that matches gives is what the row of the first layout that matches gives
-pub first-is-tried : (rs : List Row) → T (disjoint rs) → (f w : ℕ) → firstOf rs f w ≡ tryAt rs (formAt rs w) f w
-unfolding formAt tryFields
-first-is-tried [] d f w = refl
-first-is-tried (r ∷ rs) d f w =
-    let p = both (apartFrom r rs) (disjoint rs) d in
-    decide (matches (r .layout) w)
-    (λ m. simp (m, none-first rs f w (no-layout-no-row rs f w (others-not r rs (p .0) w m))))
-    (λ m. simp m (first-is-tried rs (p .1) f w))
+none-at : (rs : List Row) (k f w : ℕ) → noRow (λ r. matches (r .layout) w) rs → matchesAt rs k f w ≡ true → ⊥
+none-at [] k f w n e = let z : _≡_ {A = ℕ} 0 1 = cc in omega arith
+none-at (r ∷ rs) zero f w n e = let l = layout-matches r f w e in let t = n .0 in let z : _≡_ {A = ℕ} 0 1 = cc in omega arith
+none-at (r ∷ rs) (suc k) f w n e = none-at rs k f w (n .1) e
 
-pub form-is : (rs : List Row) → T (disjoint rs) → (k w : ℕ) → matchesAt rs k w ≡ true → formAt rs w ≡ k
-unfolding formAt
-form-is [] d k w m = let z : _≡_ {A = ℕ} 0 1 = cc in absurd (omega arith)
-form-is (r ∷ rs) d zero w m = simp m
-form-is (r ∷ rs) d (suc k) w m =
+-- a row that matches is the first one, since no other layout matches
+pub place-is : (rs : List Row) → T (disjoint rs) → (k f w : ℕ) → matchesAt rs k f w ≡ true → placeFirst rs f w ≡ k
+unfolding placeFirst
+place-is [] d k f w m = let z : _≡_ {A = ℕ} 0 1 = cc in absurd (omega arith)
+place-is (r ∷ rs) d zero f w m = simp m
+place-is (r ∷ rs) d (suc k) f w m =
     let p = both (apartFrom r rs) (disjoint rs) d in
-    decide (matches (r .layout) w)
-    (λ l. absurd (none-at rs k w (others-not r rs (p .0) w l) m))
-    (λ l. simp l (ap suc (form-is rs (p .1) k w m)))
-  where
-    none-at : (qs : List Row) (j v : ℕ) → noRow (λ q. matches (q .layout) v) qs → matchesAt qs j v ≡ true → ⊥
-    none-at [] j v n e = let z : _≡_ {A = ℕ} 0 1 = cc in omega arith
-    none-at (q ∷ qs) zero v n e = let t = n .0 in let z : _≡_ {A = ℕ} 0 1 = cc in omega arith
-    none-at (q ∷ qs) (suc j) v n e = none-at qs j v (n .1) e
+    decide (rowMatches r f w)
+    (λ l. absurd (none-at rs k f w (others-not r rs (p .0) w (layout-matches r f w l)) m))
+    (λ l. simp l (ap suc (place-is rs (p .1) k f w m)))
 
 count-none : (rs : List Row) (w : ℕ) → noRow (λ r. matches (r .layout) w) rs → countRows (λ r. matches (r .layout) w) rs ≡ 0
 count-none [] w n = refl

@@ -142,10 +142,10 @@ some-size = size-cases (λ n. 0 < n) (lit< tt) (lit< tt) (lit< tt) (lit< tt)
 some-quarter : (n : ℕ) → isSize n ≡ true → 0 < n / 4
 some-quarter = size-cases (λ n. 0 < n / 4) (lit< tt) (lit< tt) (lit< tt) (lit< tt)
 
-pub dup-divisor : (i b : ℕ) → i < 2 → b < 16 → (a : Bool) → a && not (eqb b 0) ≡ true → 0 < sizeOf (i * 16 + b) / 4
-dup-divisor i b hi hb a e =
+pub dup-divisor : (i b : ℕ) → i < 2 → b < 16 → not (eqb b 0) ≡ true → 0 < sizeOf (i * 16 + b) / 4
+dup-divisor i b hi hb e =
     let l : (i * 16 + b) % 16 ≡ b = omega arith in
-    some-quarter (sizeOf (i * 16 + b)) (dup-read (i * 16 + b) (omega arith) (rw l (not-true (eqb b 0) (and-true a (not (eqb b 0)) e .1))) .size)
+    some-quarter (sizeOf (i * 16 + b)) (dup-read (i * 16 + b) (omega arith) (rw l (not-true (eqb b 0) e)) .size)
 
 pub record DupFields (size offset index pg pn pd : ℕ) : Type 0 where
   pub bits : DupBits size offset

@@ -1,19 +1,18 @@
 -- The four claims: undefined exactly, one layout, decode after encode, encode after decode. From the laws of rows and the facts of each form's fields.
 use mathlib.Core.Path.{_≡_, refl, ap, subst, _∙_}
-use mathlib.Core.Bool.{Bool, true, _&&_}
+use mathlib.Core.Bool.{true, _&&_}
 use mathlib.Core.List.{List}
 use Prim.Native.Nat.{ℕ, suc}
 use native.Mathlib.Omega.{arith}
 use lib.Dec.{T}
 use borrow.Author.Tests.{eqb-true}
 use Rattle.setting.specs.Allowed.{allowedOf}
-use Rattle.setting.specs.Numbers.{accept, refuse}
+use Rattle.setting.specs.Numbers.{accept}
 use Rattle.setting.specs.declared.Setting.{Setting}
-use Rattle.element.specs.Size.{pick}
 use Rattle.encoding.specs.Layout.{fieldsOf, wordOf, matches}
 use Rattle.encoding.specs.Instructions.{inRange, rawOf}
 use Rattle.encoding.specs.Rows.{Row, rows, rowOf, rowMatches, pext1, pext2, dup, luti4c, luti4s, uqrshrnb}
-use Rattle.encoding.specs.Forms.{placeOf, formAt, tryFields}
+use Rattle.encoding.specs.Forms.{placeOf, placeFirst}
 use Rattle.encoding.specs.Decode.{firstOf, decodeOf}
 use Rattle.encoding.specs.Encode.{Written, written, encodeOf}
 use Rattle.encoding.specs.Claims.{UndefinedExactly, OneLayout, DecodeEncode, EncodeDecode}
@@ -21,7 +20,7 @@ use Rattle.encoding.specs.declared.Instruction.{Instruction}
 use Rattle.encoding.specs.declared.Instruction.the-variants.{Pext1, Pext2, Dup, Luti4c, Luti4s, Uqrshrnb}
 use Rattle.encoding.proofs.LayoutLaws.{fields-back, word-matches}
 use Rattle.encoding.proofs.Apart.{decide}
-use Rattle.encoding.proofs.Choice.{disjoint, matchesAt, tryAt, none-first, first-is-tried, form-is, at-most-one, refused-none, accepted-by}
+use Rattle.encoding.proofs.Choice.{disjoint, matchesAt, readAt, none-first, first-is-read, place-is, at-most-one, refused-none, accepted-by}
 use Rattle.encoding.proofs.FieldLaws.{and-true, in-range-reads, RowWrites, pext1-writes, pext2-writes, dup-row-writes, luti4c-row-writes, luti4s-row-writes, uqrshrnb-row-writes}
 
 -- the six layouts are sound and pairwise apart: computed
@@ -37,35 +36,33 @@ pub one-layout : OneLayout
 one-layout w = at-most-one rows rows-disjoint w
 
 -- ---- decode after encode
-pub matches-at-place : (i : Instruction) (w : ℕ) → matchesAt rows (placeOf i) w ≡ matches (rowOf i .layout) w
-matches-at-place (Pext1 size imm2 counter pd) w = refl
-matches-at-place (Pext2 size i1 counter pd) w = refl
-matches-at-place (Dup size offset index pg pn pd) w = refl
-matches-at-place (Luti4c size i1 zn zd) w = refl
-matches-at-place (Luti4s size i1 zn zd) w = refl
-matches-at-place (Uqrshrnb size shift zn zd) w = refl
+matches-at-place : (i : Instruction) (f w : ℕ) → matchesAt rows (placeOf i) f w ≡ rowMatches (rowOf i) f w
+matches-at-place (Pext1 size imm2 counter pd) f w = refl
+matches-at-place (Pext2 size i1 counter pd) f w = refl
+matches-at-place (Dup size offset index pg pn pd) f w = refl
+matches-at-place (Luti4c size i1 zn zd) f w = refl
+matches-at-place (Luti4s size i1 zn zd) f w = refl
+matches-at-place (Uqrshrnb size shift zn zd) f w = refl
 
-try-at-place : (i : Instruction) (f w : ℕ) → tryAt rows (placeOf i) f w ≡ tryFields (rowOf i) f w
-try-at-place (Pext1 size imm2 counter pd) f w = refl
-try-at-place (Pext2 size i1 counter pd) f w = refl
-try-at-place (Dup size offset index pg pn pd) f w = refl
-try-at-place (Luti4c size i1 zn zd) f w = refl
-try-at-place (Luti4s size i1 zn zd) f w = refl
-try-at-place (Uqrshrnb size shift zn zd) f w = refl
+read-at-place : (i : Instruction) (w : ℕ) → readAt rows (placeOf i) w ≡ accept (rowOf i .reading (fieldsOf (rowOf i .layout) w))
+read-at-place (Pext1 size imm2 counter pd) w = refl
+read-at-place (Pext2 size i1 counter pd) w = refl
+read-at-place (Dup size offset index pg pn pd) w = refl
+read-at-place (Luti4c size i1 zn zd) w = refl
+read-at-place (Luti4s size i1 zn zd) w = refl
+read-at-place (Uqrshrnb size shift zn zd) w = refl
 
 -- the word of an instruction in range is read as that instruction
 own-word : (i : Instruction) (f : ℕ) → inRange i ≡ true → rowOf i .features f ≡ true → firstOf rows f (wordOf (rowOf i .layout) (rawOf i)) ≡ accept i
-unfolding tryFields
 own-word i f g h =
     let r = in-range-reads i g in
     let L = rowOf i .layout in
     let w = wordOf L (rawOf i) in
     let m : matches L w ≡ true = word-matches L (rawOf i) (r .fit) in
     let fields : fieldsOf L w ≡ rawOf i = fields-back L (rawOf i) (r .fit) in
-    let place : formAt rows w ≡ placeOf i = form-is rows rows-disjoint (placeOf i) w (matches-at-place i w ∙ m) in
-    let all : rowOf i .features f && rowOf i .condition (fieldsOf L w) ≡ true = rw h (ap (rowOf i .condition) fields ∙ r .holds) in
-    first-is-tried rows rows-disjoint f w ∙ ap (λ (k : ℕ). tryAt rows k f w) place ∙ try-at-place i f w
-    ∙ ap (λ (b : Bool). pick b (accept (rowOf i .reading (fieldsOf L w))) (refuse 3)) all ∙ ap accept (ap (rowOf i .reading) fields ∙ r .back)
+    let all : rowMatches (rowOf i) f w ≡ true = rw (m, h) (ap (rowOf i .condition) fields ∙ r .holds) in
+    let place : placeFirst rows f w ≡ placeOf i = place-is rows rows-disjoint (placeOf i) f w (matches-at-place i f w ∙ all) in
+    first-is-read rows f w ∙ ap (λ (k : ℕ). readAt rows k w) place ∙ read-at-place i w ∙ ap accept (ap (rowOf i .reading) fields ∙ r .back)
 
 not-zero : {X : Type 0} {n : ℕ} (w : ℕ) → _≡_ {A = Written} (record { number = suc n; word = 0 }) (written w) → X
 not-zero {n = n} w e = let z : suc n ≡ 0 = ap (λ (x : Written). x .number) e in absurd (omega arith)

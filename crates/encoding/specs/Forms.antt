@@ -1,11 +1,11 @@
--- A form as a number: the place of its row in document 01's table, which the decoder finds first.
-use mathlib.Core.Bool.{_&&_}
-use mathlib.Core.List.{List, [], _∷_}
+-- A form as a number: the place of its row in document 01's table, from 0.
+use mathlib.Core.List.{List, [], _∷_, map}
 use Prim.Native.Nat.{ℕ, suc}
+use lib.ListN.{getD}
 use Rattle.setting.specs.Numbers.{Outcome, accept, refuse}
 use Rattle.element.specs.Size.{pick}
-use Rattle.encoding.specs.Layout.{fieldsOf, matches}
-use Rattle.encoding.specs.Rows.{Row}
+use Rattle.encoding.specs.Layout.{Piece}
+use Rattle.encoding.specs.Rows.{Row, rows, rowMatches}
 use Rattle.encoding.specs.declared.Instruction.{Instruction}
 use Rattle.encoding.specs.declared.Instruction.the-variants.{Pext1, Pext2, Dup, Luti4c, Luti4s, Uqrshrnb}
 
@@ -18,11 +18,16 @@ placeOf (Luti4c size i1 zn zd) = 3
 placeOf (Luti4s size i1 zn zd) = 4
 placeOf (Uqrshrnb size shift zn zd) = 5
 
--- the place of the first row whose layout matches the word; the number of rows where none does
-unfoldable pub formAt : List Row → ℕ → ℕ
-formAt [] w = 0
-formAt (r ∷ rs) w = pick (matches (r .layout) w) 0 (suc (formAt rs w))
+-- the layout at a place of the table
+abbrev pub layoutAt : ℕ → List Piece
+layoutAt k = getD (map (λ (r : Row). r .layout) rows) k []
 
--- what a word of the row's layout is read as, or 3 where a feature is missing or the field condition fails
-unfoldable pub tryFields : Row → ℕ → ℕ → Outcome Instruction
-tryFields r f w = pick (r .features f && r .condition (fieldsOf (r .layout) w)) (accept (r .reading (fieldsOf (r .layout) w))) (refuse 3)
+-- the place of the first row that matches the word; the number of rows where none does
+unfoldable pub placeFirst : List Row → ℕ → ℕ → ℕ
+placeFirst [] f w = 0
+placeFirst (r ∷ rs) f w = pick (rowMatches r f w) 0 (suc (placeFirst rs f w))
+
+-- the place of the form that a word was read as; 6 for a refusal
+abbrev pub placeIn : Outcome Instruction → ℕ
+placeIn (accept i) = placeOf i
+placeIn (refuse n) = 6

@@ -9,6 +9,7 @@ ghost use mathlib.Core.Path.{_≡_};
 ghost use Rattle.setting.specs.Numbers.{numberOf};
 ghost use Rattle.encoding.specs.Decode.{decodeOf, decodedAs};
 ghost use Rattle.encoding.specs.Encode.{unwritten, encodeOf, encodedAs};
+ghost use Rattle.encoding.specs.Forms.{placeIn};
 ghost use Rattle.encoding.specs.Claims.{Claims};
 use setting::Answer;
 use setting::Setting;
@@ -74,16 +75,27 @@ pub fn decode(setting: Setting, word: u32) -> Decoded
     if !setting::allowed(setting) {
         return Decoded::Refused(Answer::NotAllowed);
     }
-    let form = layouts::form_of(word);
-    match form {
-        0 => fields::pext1(features, word),
-        1 => fields::pext2(features, word),
-        2 => fields::dup(features, word),
-        3 => fields::luti4c(features, word),
-        4 => fields::luti4s(features, word),
-        5 => fields::uqrshrnb(features, word),
+    let row = layouts::row_of(features, word);
+    match row {
+        0 => Decoded::Fields(fields::pext1(word)),
+        1 => Decoded::Fields(fields::pext2(word)),
+        2 => Decoded::Fields(fields::dup(word)),
+        3 => Decoded::Fields(fields::luti4c(word)),
+        4 => Decoded::Fields(fields::luti4s(word)),
+        5 => Decoded::Fields(fields::uqrshrnb(word)),
         _ => Decoded::Refused(Answer::Undefined),
     }
+}
+
+// The place in the table, from 0, of the form that a word is read as under a setting; 6 where it is refused.
+pub fn form(setting: Setting, word: u32) -> usize
+    ensures { λ r. ⌜ r ≡ placeIn (decodeOf setting word) ⌝ }
+{
+    let features = setting.features;
+    if !setting::allowed(setting) {
+        return 6;
+    }
+    layouts::row_of(features, word)
 }
 
 // A refused writing gives the word 0.

@@ -1,0 +1,28 @@
+-- Document 01, "The lister": a line for each record of four bytes, and one for the bytes left over.
+use Prim.Native.Nat.{ℕ, _+_, _*_}
+use mathlib.Core.List.{List, [], _∷_, _++_}
+use lib.ListN.{getD}
+use Rattle.listing.specs.Text.{hexDigits, names}
+use Rattle.listing.specs.Name.{nameIndex}
+
+-- a space, the name at i, the end of the line
+abbrev pub nameLine : ℕ → List ℕ
+nameLine i = 32 ∷ getD names i [] ++ 10 ∷ []
+
+unfoldable pub lineOf : ℕ → List ℕ
+lineOf w = hexDigits 8 w ++ nameLine (nameIndex w)
+
+-- SHORT, a space, the number
+abbrev pub shortLine : ℕ → List ℕ
+shortLine n = 83 ∷ 72 ∷ 79 ∷ 82 ∷ 84 ∷ 32 ∷ (48 + n) ∷ 10 ∷ []
+
+-- low byte first
+abbrev pub wordOf : ℕ → ℕ → ℕ → ℕ → ℕ
+wordOf a b c d = a + 256 * b + 65536 * c + 16777216 * d
+
+unfoldable pub linesOf : List ℕ → List ℕ
+linesOf [] = []
+linesOf (a ∷ []) = shortLine 1
+linesOf (a ∷ b ∷ []) = shortLine 2
+linesOf (a ∷ b ∷ c ∷ []) = shortLine 3
+linesOf (a ∷ b ∷ c ∷ d ∷ rest) = lineOf (wordOf a b c d) ++ linesOf rest
