@@ -70,8 +70,8 @@ pub result-bounds : {s : ℕ} → Result s → (8 ≤ s) × (s ≤ 32)
 result-bounds r = ⊎-elim (λ e. (omega arith, omega arith)) (⊎-elim (λ e. (omega arith, omega arith)) (λ e. (omega arith, omega arith))) r
 
 module _ {file vl s shift zn zd : ℕ} (op : NarrowOp file vl s shift zn zd) where
-  pub each-ready : (from to : List ℕ) → length from ≡ vl / 8 → length to ≡ vl / 8 → EachReady (length from) (length to) (vl / (2 * s)) (s / 4) s shift
-  each-ready from to a b =
+  pub each-ready : {from to : ℕ} → from ≡ vl / 8 → to ≡ vl / 8 → EachReady from to (vl / (2 * s)) (s / 4) s shift
+  each-ready a b =
       let n = doubles-are vl (op .lengths .even) (op .result) in
       let m = op .lengths .most in record {
         source = a ∙ sym n;

@@ -1,25 +1,30 @@
+-- `uqrshrnb` meets its contract: a refused call leaves the file, an accepted one meets what the private function asks.
+use mathlib.Core.Path.{_≡_, refl, sym, ap, _∙_}
+use Rattle.element.proofs.Tests.{said-no, said-yes}
+use Rattle.vector.specs.Calls.{narrowFile}
+use Rattle.vector.proofs.Accepted.{narrow-accepted}
 use borrow.Author.Needs.{needs}
 use Rattle.vector.proofs.uqrshrnb.Statement.{statement}
 use Rattle.vector.proofs.uqrshrnb.Tie as tie
-use Rattle.vector.proofs.uqrshrnb.Reads as reads
-use Rattle.vector.proofs.uqrshrnb.Lts as lts
-use Rattle.vector.proofs.narrow.narrow_file.Reads as narrow-file-reads
-use Rattle.vector.proofs.narrow_ready.Reads as narrow-ready-reads
 
 narrow-ready-requires : tie.Need-narrow-ready-requires
 narrow-ready-requires c κs = search needs
 
 returns : tie.Need-returns
-returns c = ?
+unfolding narrowFile
+returns c = let n = said-no (c .before .narrow-ready .ensures) (c .if1 .taken) in (sym n, rw n)
 
 narrow-file-requires : tie.Need-narrow-file-requires
-narrow-file-requires c κs = ?
+narrow-file-requires c κs = narrow-accepted _ _ _ _ _ _ (said-yes (c .before .before .narrow-ready .ensures) (c .before .if1 .left))
 
 same-length : tie.Need-same-length
 same-length c = search needs
 
 returns-2 : tie.Need-returns-2
-returns-2 c = ?
+unfolding narrowFile
+returns-2 c =
+    let y = said-yes (c .before .before .before .before .before .narrow-ready .ensures) (c .before .before .before .before .if1 .left) in
+    (sym y, rw y (c .before .before .narrow-file .ensures))
 
 pub uqrshrnb-spec : {M : Type 1} → statement M
 uqrshrnb-spec =

@@ -1,13 +1,17 @@
+-- `narrow_file` meets its contract: the copy is Zn, and the part that comes back is Zd as the definition has it.
+use mathlib.Core.Path.{_≡_, refl, sym, ap, _∙_}
+use Prim.Native.Nat.{ℕ, _+_, _-_, _*_, _/_, _%_, _^_, _≤_, _<_}
+use native.Mathlib.Omega.{arith}
+use lib.ListN.{length, take}
+use Rattle.element.specs.Slots.{slot}
+use Rattle.element.proofs.Slots.{slot-length, loaded}
+use Rattle.vector.proofs.Files.{part-len, result-bounds, each-ready, finished}
 use borrow.Author.Needs.{needs}
 use Rattle.vector.proofs.narrow.narrow_file.Statement.{statement}
 use Rattle.vector.proofs.narrow.narrow_file.Tie as tie
-use Rattle.vector.proofs.narrow.narrow_file.Reads as reads
-use Rattle.vector.proofs.narrow.narrow_file.Lts as lts
-use Rattle.bytes.proofs.copy.Reads as copy-reads
-use Rattle.vector.proofs.narrow.narrow_part.Reads as narrow-part-reads
 
 mul-count : tie.Need-mul-count
-mul-count c = ?
+mul-count c = let b = result-bounds (c .before .pre .result) in record { fits = omega arith }
 
 div-count : tie.Need-div-count
 div-count c = search needs
@@ -42,8 +46,18 @@ add-e c = search needs
 array-share-prefix-s : tie.Need-array-share-prefix-s
 array-share-prefix-s c = search needs
 
+held : (c : tie.After-copy) → take (c .before .before .before .before .before .args .vl / 8) (c .copy .last .1 .0) ≡ slot 256 (c .before .before .before .before .before .args .vl / 8) (c .before .before .before .before .before .args .zn) (c .before .before .before .before .before .args .z .now)
+held c =
+    let a = c .before .before .before .before .before in
+    loaded 256 (a .args .vl / 8) (a .args .zn) (a .args .z .now) _ (c .copy .last .1 .0) (omega arith) (c .copy .ensures .1)
+
+held-length : (c : tie.After-copy) → length (take (c .before .before .before .before .before .args .vl / 8) (c .copy .last .1 .0)) ≡ c .before .before .before .before .before .args .vl / 8
+held-length c =
+    let a = c .before .before .before .before .before in
+    ap length (held c) ∙ slot-length 256 (a .args .vl / 8) (a .args .zn) (a .args .z .now) (omega arith)
+
 slice-aggregate-narrow-part : tie.Need-slice-aggregate-narrow-part
-slice-aggregate-narrow-part c = ?
+slice-aggregate-narrow-part c = sym (held-length (c .before .before))
 
 sub-narrow-part : tie.Need-sub-narrow-part
 sub-narrow-part c = search needs
@@ -55,13 +69,17 @@ part-narrow-part-end : tie.Need-part-narrow-part-end
 part-narrow-part-end c = search needs
 
 narrow-part-requires : tie.Need-narrow-part-requires
-narrow-part-requires c κs = ?
+narrow-part-requires c κs =
+    let a = c .before .before .before .before .before .before .before .before in
+    each-ready (a .pre) (held-length (c .before .before .before)) (part-len 256 (a .args .vl / 8) (a .args .zd) (a .args .z .now) (omega arith))
 
 same-length : tie.Need-same-length
 same-length c = search needs
 
 returns : tie.Need-returns
-returns c = ?
+returns c =
+    let a = c .before .before .before .before .before .before .before .before .before .before .before in
+    finished (a .pre) (a .args .z .now) _ _ (omega arith) (held (c .before .before .before .before .before .before)) (c .before .before .narrow-part .ensures)
 
 pub narrow-file-spec : {M : Type 1} → statement M
 narrow-file-spec =
