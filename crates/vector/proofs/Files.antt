@@ -2,7 +2,7 @@
 use mathlib.Core.Path.{_≡_, sym, ap, _∙_}
 use mathlib.Core.Logic.{⊎-elim, _⊎_, inl, inr}
 use mathlib.Core.List.{List}
-use Prim.Native.Nat.{ℕ, suc, _+_, _-_, _*_, _/_, _%_, _≤_, _<_}
+use Prim.Native.Nat.{ℕ, _+_, _-_, _*_, _/_, _%_, _≤_}
 use native.Mathlib.Nat.{mul-assoc}
 use native.Mathlib.Numerals.{add-one}
 use native.Mathlib.Omega.{arith}
@@ -11,10 +11,10 @@ use borrow.Rule.Slice.PartMut.{putMid}
 use Rattle.element.specs.Contents.{elem, field, fill}
 use Rattle.element.specs.Slots.{slot, setSlot}
 use Rattle.element.proofs.Filling.{fill-length}
-use Rattle.element.proofs.Slots.{slot-part, slot-length, slot-back, setSlot-length}
+use Rattle.element.proofs.Slots.{slot-part, slot-length, slot-back}
 use Rattle.vector.specs.Lookup.{positionOf, lutiOf, lutiFile}
 use Rattle.vector.specs.Narrow.{narrowed, uqrshrnbOf, uqrshrnbFile}
-use Rattle.vector.specs.Needed.{Result, Width, Lengths, EachReady, LutiReady, NarrowOp}
+use Rattle.vector.specs.Needed.{Result, Width, EachReady, LutiReady, NarrowOp}
 use Rattle.vector.proofs.Places.{each-is, elements-are}
 
 pub part-len : (size n k : ℕ) (f : List ℕ) → size * k + n ≤ length f → length (take (size * k + n - size * k) (drop (size * k) f)) ≡ n

@@ -2,7 +2,7 @@
 use mathlib.Core.Path.{_≡_, sym, ap, _∙_}
 use mathlib.Core.Logic.{⊎-elim, ⊎-map, _⊎_}
 use Prim.Native.Nat.{ℕ, suc, _+_, _*_, _/_, _%_, _≤_, _<_}
-use native.Mathlib.Nat.{mul-assoc, mul-comm, mul-suc, mul-le-mul, mul-le-mul-left, mul-le-mul-right, le-trans, suc-mul, div-mul-le-self, mul-div-le, le-div-iff-mul-le}
+use native.Mathlib.Nat.{mul-assoc, mul-comm, mul-suc, mul-le-mul-left, mul-le-mul-right, le-trans, suc-mul, div-mul-le-self, mul-div-le, le-div-iff-mul-le}
 use native.Mathlib.Omega.{arith}
 use lib.Dec.{lit<}
 use Rattle.vector.specs.Needed.{Kind, LutiReady}

@@ -8,7 +8,7 @@ use native.Mathlib.Omega.{arith}
 use lib.Dec.{lit<}
 use lib.ListN.{length, take, drop}
 use lib.Pow.{pow-pos, pow-add, pow-mono, shl-exact}
-use Rattle.element.specs.Contents.{num, elem}
+use Rattle.element.specs.Contents.{elem}
 use Rattle.element.proofs.Filling.{part-length, span}
 use Rattle.vector.specs.Narrow.{rounded, narrowed}
 use Rattle.vector.specs.Needed.{Width, Got}

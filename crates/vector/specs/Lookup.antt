@@ -1,8 +1,6 @@
 -- Document 01, "LUTI4": each destination takes table entries that the indexes of its part of a segment name.
-use mathlib.Core.Path.{_≡_}
-use mathlib.Core.Logic.{_⊎_}
 use mathlib.Core.List.{List}
-use Prim.Native.Nat.{ℕ, zero, suc, _+_, _*_, _/_, _≤_, _<_, _%_}
+use Prim.Native.Nat.{ℕ, zero, suc, _+_, _*_, _/_}
 use Rattle.element.specs.Contents.{elem, field, fill}
 use Rattle.element.specs.Slots.{slot, setSlot}
 

@@ -1,5 +1,5 @@
 -- `uqrshrnb` meets its contract: a refused call leaves the file, an accepted one meets what the private function asks.
-use mathlib.Core.Path.{_≡_, refl, sym, ap, _∙_}
+use mathlib.Core.Path.{sym}
 use Rattle.element.proofs.Tests.{said-no, said-yes}
 use Rattle.vector.specs.Calls.{narrowFile}
 use Rattle.vector.proofs.Accepted.{narrow-accepted}

@@ -1,13 +1,13 @@
 -- `spread` meets its contract: after j turns o begins with the first j elements, and x is what is left of the byte. The measure is what is left of the count.
-use mathlib.Core.Path.{_≡_, refl, sym, ap, _∙_}
+use mathlib.Core.Path.{_≡_, refl, ap, _∙_}
 use mathlib.Core.List.{_++_}
-use Prim.Native.Nat.{ℕ, _+_, _-_, _*_, _/_, _%_, _^_, _≤_, _<_}
+use Prim.Native.Nat.{ℕ, _+_, _-_, _*_, _/_, _%_, _^_, _≤_}
 use native.Mathlib.Nat.{zero-mul}
 use native.Mathlib.Omega.{arith}
 use lib.ListN.{length, drop}
 use Rattle.element.specs.Contents.{elem, fill}
 use Rattle.element.proofs.Filling.{turn, part-length, again, done}
-use Rattle.vector.proofs.Lookups.{sizes, index-lt, next, begin, element-width, element-le, entry-read}
+use Rattle.vector.proofs.Lookups.{sizes, index-lt, next, begin, element-width, entry-read}
 use Rattle.vector.proofs.lookup.spread.Statement.{statement}
 use Rattle.vector.proofs.lookup.spread.Tie as tie
 

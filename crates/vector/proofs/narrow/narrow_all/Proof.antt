@@ -1,14 +1,14 @@
 -- `narrow_all` meets its contract: after i turns o begins with the first i elements narrowed. The measure is what is left of the count.
-use mathlib.Core.Path.{_≡_, refl, sym, ap, _∙_}
+use mathlib.Core.Path.{_≡_, refl, ap, _∙_}
 use mathlib.Core.List.{_++_}
-use Prim.Native.Nat.{ℕ, _+_, _-_, _*_, _/_, _%_, _^_, _≤_, _<_}
+use Prim.Native.Nat.{ℕ, _+_, _-_, _*_, _≤_}
 use native.Mathlib.Nat.{zero-mul}
 use native.Mathlib.Omega.{arith}
 use lib.ListN.{length, drop}
 use Rattle.element.specs.Contents.{elem, fill}
 use Rattle.element.proofs.Filling.{turn, part-length, again, done}
 use Rattle.vector.specs.Narrow.{narrowed}
-use Rattle.vector.proofs.Rounding.{width-le, got-fits, read}
+use Rattle.vector.proofs.Rounding.{width-le, read}
 use Rattle.vector.proofs.narrow.narrow_all.Statement.{statement}
 use Rattle.vector.proofs.narrow.narrow_all.Tie as tie
 

@@ -1,6 +1,6 @@
 -- `narrow_file` meets its contract: the copy is Zn, and the part that comes back is Zd as the definition has it.
-use mathlib.Core.Path.{_≡_, refl, sym, ap, _∙_}
-use Prim.Native.Nat.{ℕ, _+_, _-_, _*_, _/_, _%_, _^_, _≤_, _<_}
+use mathlib.Core.Path.{_≡_, sym, ap, _∙_}
+use Prim.Native.Nat.{_-_, _/_}
 use native.Mathlib.Omega.{arith}
 use lib.ListN.{length, take}
 use Rattle.element.specs.Slots.{slot}

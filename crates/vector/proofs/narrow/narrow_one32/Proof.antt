@@ -1,5 +1,5 @@
 -- `narrow_one32` meets its contract: Rounding has its arithmetic for every register width.
-use Prim.Native.Nat.{ℕ, _+_, _-_, _*_, _/_, _%_, _^_, _≤_, _<_}
+use Prim.Native.Nat.{_-_}
 use native.Mathlib.Omega.{arith}
 use Rattle.vector.proofs.Rounding.{max-fits, under, over}
 use borrow.Author.Needs.{needs}

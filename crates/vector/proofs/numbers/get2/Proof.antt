@@ -1,5 +1,5 @@
 -- `get2` meets its contract: the list is its 2 bytes, spelled out.
-use mathlib.Core.Path.{_≡_, refl, sym, ap, _∙_}
+use mathlib.Core.Path.{ap}
 use native.Mathlib.Omega.{arith}
 use Rattle.element.specs.Contents.{num}
 use Rattle.vector.proofs.Spelling.{spelled}
