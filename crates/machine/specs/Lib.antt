@@ -1,0 +1,6 @@
+pub mod Machine
+pub mod Touched
+pub mod Gives
+pub mod Step
+pub mod Done
+pub mod Claims
