@@ -41,7 +41,7 @@ pub record Writes (i : Instruction) (xs : List ℕ) : Type 0 where
   pub back : rawOf i ≡ xs
 
 -- ---- element sizes
-size-cases : (P : ℕ → Type 0) → P 8 → P 16 → P 32 → P 64 → (n : ℕ) → isSize n ≡ true → P n
+pub size-cases : (P : ℕ → Type 0) → P 8 → P 16 → P 32 → P 64 → (n : ℕ) → isSize n ≡ true → P n
 size-cases P a b c d n =
     decide (eqb n 8) (λ e _. rw (eqb-true n 8 e) a)
     (λ e. decide (eqb n 16) (λ e′ _. rw (eqb-true n 16 e′) b)
