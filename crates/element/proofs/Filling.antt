@@ -127,14 +127,19 @@ module _ (f : ℕ → ℕ) where
   pub stored : (i n : ℕ) (o₀ o : List ℕ) → i ≤ n → n ≤ i → length o₀ ≡ n → o ≡ fill f 1 i ++ drop i o₀ → o ≡ fill f 1 n
   stored i n o₀ o a b l e = let q : i ≡ n = omega arith in e ∙ rw (q, ← l, drop-length, append-nil)
 
--- the number of the first two bytes
-pub first-two : (p : List ℕ) → 2 ≤ length p → elem 2 0 p ≡ getD p 0 0 + 256 * getD p 1 0
+-- the number of the first two bytes, a missing one being 0
+pub first-two : (p : List ℕ) → elem 2 0 p ≡ getD p 0 0 + 256 * getD p 1 0
 unfolding elem num
-first-two [] h = absurd (omega arith)
-first-two (a ∷ []) h = absurd (omega arith)
-first-two (a ∷ (b ∷ l)) h = omega arith
+first-two [] = refl
+first-two (a ∷ []) = refl
+first-two (a ∷ (b ∷ l)) = omega arith
 
 -- a predicate's contents have exactly their bytes
 pub row-length : (g : ℕ → Bool) (n : ℕ) → length (row g n) ≡ n
 unfolding row
 row-length g n = fill-length (octet g) 1 n ∙ mul-one n
+
+-- equal bits, equal predicates
+pub row-same : (g h : ℕ → Bool) (n : ℕ) → ((b : ℕ) → g b ≡ h b) → row g n ≡ row h n
+unfolding row octet
+row-same g h n e = same (octet g) (octet h) 1 n (λ k l. gather-same g h 8 (8 * k) (8 * k) (λ j i. e (8 * k + j)))

@@ -1,11 +1,15 @@
 -- An element's bits in a predicate: 2 ^ z of them, z below 4. What follows of divisions by it, once over z.
 use mathlib.Core.Path.{_≡_, refl, sym, ap, _∙_}
+use mathlib.Core.Bool.{true, _||_}
 use mathlib.Core.Logic.{⊎-elim, _⊎_, inl, inr}
 use Prim.Native.Nat.{ℕ, zero, suc, _+_, _*_, _/_, _%_, _^_, _<_}
 use native.Mathlib.Nat.{div-div-eq-div-mul, mul-div-right}
 use native.Mathlib.Omega.{arith}
-use lib.Dec.{lit<}
+use lib.Dec.{eqb, lit<}
+use borrow.Author.Tests.{eqb-true}
+use Rattle.element.specs.Size.{isSize}
 use Rattle.element.specs.Units.{Size, Log, logOf}
+use Rattle.element.proofs.Tests.{one-yes}
 
 -- a unit: 2 ^ z, z below 4
 abbrev pub Unit : ℕ → Type 0
@@ -40,3 +44,11 @@ log-is size =
     ⊎-elim (λ (e : size ≡ 8). rw e (record { small = lit< tt; is = refl }))
     (⊎-elim (λ (e : size ≡ 16). rw e (record { small = lit< tt; is = refl }))
     (⊎-elim (λ (e : size ≡ 32). rw e (record { small = lit< tt; is = refl })) (λ (e : size ≡ 64). rw e (record { small = lit< tt; is = refl }))))
+
+-- a number that passes the test is one of the four sizes
+pub size-is : (size : ℕ) → isSize size ≡ true → Size size
+size-is size h =
+    ⊎-elim
+    (λ h. ⊎-elim (λ h. ⊎-elim (λ e. inl (eqb-true size 8 e)) (λ e. inr (inl (eqb-true size 16 e))) (one-yes (eqb size 8) (eqb size 16) h)) (λ e. inr (inr (inl (eqb-true size 32 e)))) (one-yes (eqb size 8 || eqb size 16) (eqb size 32) h))
+    (λ e. inr (inr (inr (eqb-true size 64 e))))
+    (one-yes (eqb size 8 || eqb size 16 || eqb size 32) (eqb size 64) h)

@@ -1,6 +1,6 @@
 // Element sizes, and the places of elements in a predicate's bytes.
 ghost use mathlib.Core.Path.{_≡_};
-ghost use Rattle.element.specs.Size.{sizeOf};
+ghost use Rattle.element.specs.Size.{sizeOf, isSize};
 ghost use Rattle.element.specs.Units.{logOf, patternOf};
 
 // The element size that a field's low four bits say, for a counter and for DUP's tszh:tszl; 0 where they are all 0.
@@ -12,6 +12,13 @@ pub fn size_of(field: u32) -> u32
         return 0;
     }
     8 << u32::trailing_zeros(low)
+}
+
+// Whether the number is one of the four sizes.
+pub fn is_size(size: u32) -> bool
+    ensures { λ r. ⌜ r ≡ isSize size ⌝ }
+{
+    (size == 8) | (size == 16) | (size == 32) | (size == 64)
 }
 
 // The z of a size of 8 · 2^z bits, for the four sizes; 3 for any other number.
