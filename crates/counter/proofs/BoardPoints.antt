@@ -5,9 +5,8 @@ use Rattle.element.specs.Every.{Every}
 use Rattle.element.specs.Size.{sizeOf}
 use Rattle.element.specs.Contents.{bytes, fill, gather, octet, row}
 use Rattle.counter.specs.Counter.{topBit, countOf, elementOf, expansionBit, expansionOf}
-use Rattle.counter.specs.Portion.{portionBit, portionOf}
 use Rattle.counter.specs.Points.{counterPoints}
 
 pub counter-points : Every counterPoints
-unfolding portionOf portionBit expansionOf expansionBit elementOf countOf topBit sizeOf trailingZeros row fill bytes octet gather
-counter-points = (refl, (refl, (refl, (refl, (refl, (refl, (refl, (refl, (refl, (refl, (refl, tt)))))))))))
+unfolding expansionOf expansionBit elementOf countOf topBit sizeOf trailingZeros row fill bytes octet gather
+counter-points = (refl, (refl, (refl, (refl, (refl, tt)))))

@@ -34,11 +34,11 @@ pub length-is : (vl : ℕ) → lengthAllowed vl ≡ true → Length vl
 unfolding topBit trailingZeros
 length-is =
     cases Length
-    (record { least = lit≤ tt; most = lit≤ tt; even = refl; high = lit< tt; power = refl })
-    (record { least = lit≤ tt; most = lit≤ tt; even = refl; high = lit< tt; power = refl })
-    (record { least = lit≤ tt; most = lit≤ tt; even = refl; high = lit< tt; power = refl })
-    (record { least = lit≤ tt; most = lit≤ tt; even = refl; high = lit< tt; power = refl })
-    (record { least = lit≤ tt; most = lit≤ tt; even = refl; high = lit< tt; power = refl })
+    (record { least = lit≤ tt; most = lit≤ tt; even = refl; above = lit< tt; under = lit< tt; power = refl })
+    (record { least = lit≤ tt; most = lit≤ tt; even = refl; above = lit< tt; under = lit< tt; power = refl })
+    (record { least = lit≤ tt; most = lit≤ tt; even = refl; above = lit< tt; under = lit< tt; power = refl })
+    (record { least = lit≤ tt; most = lit≤ tt; even = refl; above = lit< tt; under = lit< tt; power = refl })
+    (record { least = lit≤ tt; most = lit≤ tt; even = refl; above = lit< tt; under = lit< tt; power = refl })
 
 pub top-bit : (vl : ℕ) → lengthAllowed vl ≡ true → 2 ^ topBit vl ≡ 4 * (vl / 8)
 unfolding topBit trailingZeros

@@ -64,6 +64,7 @@ pub record Extractable (vl size p room : ℕ) : Type 0 where
   pub whole : room ≡ vl / 64
 
 pub extractable-is : (vl size p room : ℕ) → extractable vl size p room ≡ true → Extractable vl size p room
+unfolding extractable
 extractable-is vl size p room h =
     let a = both-yes (lengthAllowed vl && isSize size && ltb p 4) (eqb room (vl / 64)) h in
     let b = both-yes (lengthAllowed vl && isSize size) (ltb p 4) (a .0) in

@@ -1,4 +1,4 @@
--- Document 01, "Points on the board": starred cases 7 and 8, over the whole expansion of 4·PL bits, and 6 and 9, of portions.
+-- Document 01, "Points on the board": starred cases 7 and 8, over the whole expansion of 4·PL bits. The crate predicate has 6 and 9.
 use mathlib.Core.Path.{_≡_}
 use mathlib.Core.Bool.{true}
 use mathlib.Core.List.{List, [], _∷_, _++_}
@@ -7,25 +7,16 @@ use lib.ListN.{replicate}
 use Rattle.setting.specs.Allowed.{lengthAllowed}
 use Rattle.element.specs.Every.{Every}
 use Rattle.counter.specs.Counter.{topBit, expansionOf}
-use Rattle.counter.specs.Portion.{portionOf}
 
 abbrev pub counterPoints : List (Type 0)
 counterPoints =
-    -- 6: counter 0007, portion 0 at B and at H
-    (portionOf 128 8 0 0x0007 ≡ 0x07 ∷ 0x00 ∷ [])
-    ∷ (portionOf 128 16 0 0x0007 ≡ 0x05 ∷ 0x00 ∷ [])
     -- 7: 8001 is all true; 0001 and 8000 are all false
-    ∷ (expansionOf 128 0x8001 ≡ replicate 8 0xff)
+    (expansionOf 128 0x8001 ≡ replicate 8 0xff)
     ∷ (expansionOf 128 0x0001 ≡ replicate 8 0x00)
     ∷ (expansionOf 128 0x8000 ≡ replicate 8 0x00)
     -- 8: 0081 is all false at VL 128; at VL 256 its first 64 elements are true, and no other
     ∷ (expansionOf 128 0x0081 ≡ replicate 8 0x00)
     ∷ (expansionOf 256 0x0081 ≡ replicate 8 0xff ++ replicate 8 0x00)
-    -- 9: 8021, portions 0 to 3 at B
-    ∷ (portionOf 128 8 0 0x8021 ≡ 0x00 ∷ 0x00 ∷ [])
-    ∷ (portionOf 128 8 1 0x8021 ≡ 0xff ∷ 0xff ∷ [])
-    ∷ (portionOf 128 8 2 0x8021 ≡ 0xff ∷ 0xff ∷ [])
-    ∷ (portionOf 128 8 3 0x8021 ≡ 0xff ∷ 0xff ∷ [])
     ∷ []
 
 -- m is the number that document 01 names by 2^m = 4·PL, PL being VL/8

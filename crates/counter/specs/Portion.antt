@@ -16,5 +16,5 @@ unfoldable pub portionOf : ℕ → ℕ → ℕ → ℕ → List ℕ
 portionOf vl size p c = row (portionBit vl size p c) (vl / 64)
 
 -- there is such a portion, and it fills a part of `room` bytes
-abbrev pub extractable : ℕ → ℕ → ℕ → ℕ → Bool
+unfoldable pub extractable : ℕ → ℕ → ℕ → ℕ → Bool
 extractable vl size p room = lengthAllowed vl && isSize size && ltb p 4 && eqb room (vl / 64)

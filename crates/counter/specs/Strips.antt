@@ -15,7 +15,8 @@ pub record Length (vl : ℕ) : Type 0 where
   pub least : 128 ≤ vl
   pub most : vl ≤ 2048
   pub even : vl % 128 ≡ 0
-  pub high : 3 < topBit vl
+  pub above : 5 < topBit vl
+  pub under : topBit vl < 11
   pub power : vl ≡ 2 ^ (topBit vl + 1)
 
 pub record Strip (vl s from : ℕ) : Type 0 where

@@ -1,5 +1,6 @@
 -- `can_extract` meets its contract: its tests are the definition's, with the calls' answers for the length and the size.
 use borrow.Author.Needs.{needs}
+use Rattle.counter.specs.Portion.{extractable}
 use Rattle.counter.proofs.can_extract.Statement.{statement}
 use Rattle.counter.proofs.can_extract.Tie as tie
 
@@ -13,6 +14,7 @@ cast-result : tie.Need-cast-result
 cast-result c = search needs
 
 returns : tie.Need-returns
+unfolding extractable
 returns c = rw (c .is-size .ensures, c .before .length-allowed .ensures)
 
 pub can-extract-spec : {M : Type 1} → statement M
