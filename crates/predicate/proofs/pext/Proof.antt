@@ -64,7 +64,7 @@ put-requires c κs =
     let r = ready (l .before .before .before) in
     let n = l .loop .n in
     let a = l .before .before .before .before .before .before .args in
-    rw (long l) (portion-ready (r .ground) (a .first + n) ((a .pd + n) % 16) (omega arith) (omega arith))
+    rw (long l) (portion-ready (r .ground) (a .first + n) _ (omega arith) (omega arith))
 
 add-n : tie.Need-add-n Inv-loop μ-loop
 add-n c = omega arith
