@@ -19,7 +19,7 @@ module _ (vl size first pd : ℕ) (c : List ℕ) where
   pub slots-length : (n : ℕ) (f : List ℕ) → length (pextSlots vl size first pd c n f) ≡ length f
   unfolding pextSlots
   slots-length zero f = refl
-  slots-length (suc n) f = setSlot-length 32 (vl / 64) ((pd + n) % 16) (pextOf vl size (first + n) c) (pextSlots vl size first pd c n f) ∙ slots-length n f
+  slots-length (suc n) f = setSlot-length 32 (vl / 64) _ _ _ ∙ slots-length n f
 
   pub one-more : (n x : ℕ) (f p q : List ℕ)
       → x ≡ elem 2 0 c

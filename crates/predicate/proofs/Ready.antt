@@ -1,12 +1,14 @@
 -- What the tests before an operation say of its operands: each test by itself.
 use mathlib.Core.Path.{_≡_, refl}
 use mathlib.Core.Bool.{true, _&&_, _||_}
+use mathlib.Core.Logic.{⊎-elim}
 use Prim.Native.Nat.{ℕ, _+_, _/_, _≤_, _<_}
+use native.Mathlib.Omega.{arith}
 use lib.Dec.{eqb, leb, ltb}
 use borrow.Author.Tests.{eqb-true, leb-true, ltb-true, lt-ltb, eq-eqb}
 use Rattle.setting.specs.Allowed.{lengthAllowed}
 use Rattle.element.specs.Size.{isSize}
-use Rattle.element.proofs.Tests.{both-yes}
+use Rattle.element.proofs.Tests.{both-yes, one-yes}
 use Rattle.element.proofs.Units.{size-is}
 use Rattle.counter.specs.Portion.{extractable}
 use Rattle.counter.proofs.Lengths.{length-is}
@@ -30,6 +32,7 @@ register {bytes} {vl} g k h = record { file = g .file; length = length-is vl (g 
 
 pub record Pext (bytes vl size first portions pn pd : ℕ) : Type 0 where
   pub ground : Ground bytes vl size
+  pub some : 0 < portions
   pub last : first + portions ≤ 4
   pub from : pn < 16
   pub to : pd < 16
@@ -37,13 +40,19 @@ pub record Pext (bytes vl size first portions pn pd : ℕ) : Type 0 where
 pub pext-ready : (bytes vl size first portions pn pd : ℕ) → pextReady bytes vl size first portions pn pd ≡ true → Pext bytes vl size first portions pn pd
 unfolding pextReady
 pext-ready bytes vl size first portions pn pd h =
-    let some = eqb portions 1 || eqb portions 2 in
+    let few = eqb portions 1 || eqb portions 2 in
     let first-tests = eqb bytes 512 && lengthAllowed vl && isSize size in
-    let a = both-yes (first-tests && some && leb (first + portions) 4) (ltb pn 16 && ltb pd 16) h in
-    let b = both-yes (first-tests && some) (leb (first + portions) 4) (a .0) in
-    let d = both-yes first-tests some (b .0) in
+    let a = both-yes (first-tests && few && leb (first + portions) 4) (ltb pn 16 && ltb pd 16) h in
+    let b = both-yes (first-tests && few) (leb (first + portions) 4) (a .0) in
+    let d = both-yes first-tests few (b .0) in
     let e = both-yes (ltb pn 16) (ltb pd 16) (a .1) in
-    record { ground = ground bytes vl size (d .0); last = leb-true (first + portions) 4 (b .1); from = ltb-true pn 16 (e .0); to = ltb-true pd 16 (e .1) }
+    record {
+      ground = ground bytes vl size (d .0);
+      some = ⊎-elim (λ s. omega (arith, eqb-true portions 1 s)) (λ s. omega (arith, eqb-true portions 2 s)) (one-yes (eqb portions 1) (eqb portions 2) (d .1));
+      last = leb-true (first + portions) 4 (b .1);
+      from = ltb-true pn 16 (e .0);
+      to = ltb-true pd 16 (e .1);
+    }
 
 -- a portion below four can be extracted into a slot
 pub portion-ready : {bytes vl size : ℕ} → Ground bytes vl size → (p k : ℕ) → p < 4 → k < 16 → Portion bytes vl size p k

@@ -64,18 +64,19 @@ put-requires c κs =
     let r = ready (l .before .before .before) in
     let n = l .loop .n in
     let a = l .before .before .before .before .before .before .args in
-    rw (long l) (portion-ready (r .ground) (a .first + n) ((a .pd + n) % 16) (omega arith) (omega arith))
+    rw (long l) (portion-ready (r .ground) (a .first + n) _ (omega arith) (omega arith))
 
 add-n : tie.Need-add-n Inv-loop μ-loop
 add-n c = omega arith
 
 loop-less : tie.Need-loop-less Inv-loop μ-loop
-loop-less c = omega arith
+loop-less c = let r = ready (c .before .before .before .before .before .before .before .before) in omega arith
 
 loop-again : tie.Need-loop-again Inv-loop μ-loop
 loop-again c =
     let l = c .before .before .before .before .before in
     let a = l .before .before .before .before .before .before .args in
+    let r = ready (l .before .before .before) in
     (omega arith, one-more (a .vl) (a .size) (a .first) (a .pd) (slot 32 (a .vl / 64) (a .pn) (a .p .now)) (l .loop .n) (l .before .source .result .0) (a .p .now) (l .loop .p) _ (l .before .source .ensures) (l .loop .inv .1) (c .before .before .put .ensures))
 
 same-length : tie.Need-same-length Inv-loop μ-loop
