@@ -13,7 +13,7 @@ use Rattle.element.specs.Slots.{slot, setSlot}
 use Rattle.element.proofs.Filling.{fill-length}
 use Rattle.part.proofs.Slots.{put-back}
 use Rattle.lookup.specs.Lookup.{positionOf, lutiOf, lutiFile}
-use Rattle.lookup.specs.Needed.{Result, Width, EachReady, LutiReady, NarrowOp}
+use Rattle.lookup.specs.Needed.{LutiReady}
 use Rattle.lookup.proofs.Places.{each-is, elements-are}
 
 module _ {file table vl k s d segment zn first stride : ℕ} (op : LutiReady file table vl k s d segment zn first stride) where

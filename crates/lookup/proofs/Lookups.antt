@@ -1,16 +1,18 @@
 -- One byte of indexes: its fields are the definition's, and each is one of the table's entries. Once over the index width, the result's and the place.
-use mathlib.Core.Path.{_≡_, sym, ap, _∙_}
+use mathlib.Core.Path.{_≡_, refl, sym, ap, _∙_}
 use mathlib.Core.Logic.{⊎-elim, _⊎_, inl, inr}
 use mathlib.Core.List.{List}
 use Prim.Native.Nat.{ℕ, _+_, _-_, _*_, _/_, _%_, _^_, _≤_, _<_}
 use native.Mathlib.Nat.{suc-mul, div-div-eq-div-mul, zero-mul, div-one, mul-le-mul}
 use native.Mathlib.Numerals.{add-one}
 use native.Mathlib.Omega.{arith}
-use lib.ListN.{take, drop, getD}
+use lib.ListN.{length, take, drop, getD}
 use lib.Pow.{pow-add}
 use Rattle.element.specs.Contents.{num, elem, field, fill}
 use Rattle.element.proofs.Filling.{span, same}
-use Rattle.lookup.specs.Needed.{Kind, Width}
+use Rattle.part.specs.Parts.{Width, Got, numberOf}
+use Rattle.part.proofs.Widths.{element-read}
+use Rattle.lookup.specs.Needed.{Kind}
 
 -- what the code's arithmetic asks of an index width
 pub record Sizes (k : ℕ) : Type 0 where
@@ -44,10 +46,10 @@ pub element-le : {w : ℕ} → (w ≡ 2) ⊎ (w ≡ 4) → w ≤ 4
 element-le h = ⊎-elim (λ e. omega arith) (λ e. omega arith) h
 
 -- what is read of the table
-pub entry-read : {k : ℕ} (x b j : ℕ) (zt : List ℕ) → Kind k → x ≡ b / 2 ^ (j * k)
-    → num (take (x % ((1 * 2 ^ k) % 2 ^ 32) * 4 + 4 - x % ((1 * 2 ^ k) % 2 ^ 32) * 4) (drop (x % ((1 * 2 ^ k) % 2 ^ 32) * 4) zt)) ≡ elem 4 (b / 2 ^ (j * k) % 2 ^ k) zt
-unfolding elem
-entry-read x b j zt h e = rw (sizes h .mask, span, e)
+pub entry-read : {k : ℕ} (x b j : ℕ) (zt : List ℕ) {v : ℕ} → length zt ≡ 64 → Kind k → x ≡ b / 2 ^ (j * k)
+    → Got (take (x % ((1 * 2 ^ k) % 2 ^ 32) * 4 + 4 - x % ((1 * 2 ^ k) % 2 ^ 32) * 4) (drop (x % ((1 * 2 ^ k) % 2 ^ 32) * 4) zt)) (numberOf (take (x % ((1 * 2 ^ k) % 2 ^ 32) * 4 + 4 - x % ((1 * 2 ^ k) % 2 ^ 32) * 4) (drop (x % ((1 * 2 ^ k) % 2 ^ 32) * 4) zt))) v
+    → v ≡ elem 4 (b / 2 ^ (j * k) % 2 ^ k) zt
+entry-read x b j zt l h e g = element-read _ 16 4 zt (index-lt x h) l (inr (inl refl)) g ∙ rw (sizes h .mask, e)
 
 -- a byte's fields
 field-at : {k : ℕ} (first q j : ℕ) (s : List ℕ) → Kind k → j < 8 / k → getD s (first + q) 0 / 2 ^ (j * k) % 2 ^ k ≡ field k (first * (8 / k) + (q * (8 / k) + j)) s

@@ -13,7 +13,8 @@ use Rattle.element.specs.Slots.{slot, setSlot}
 use Rattle.element.proofs.Filling.{fill-length}
 use Rattle.part.proofs.Slots.{put-back}
 use Rattle.narrow.specs.Narrow.{narrowed, uqrshrnbOf, uqrshrnbFile}
-use Rattle.narrow.specs.Needed.{Result, Width, EachReady, LutiReady, NarrowOp}
+use Rattle.part.specs.Parts.{Width}
+use Rattle.narrow.specs.Needed.{Result, EachReady, NarrowReady}
 
 -- a register's elements are its bytes
 pub doubles-are : {s : ℕ} (vl : ℕ) → vl % 128 ≡ 0 → Result s → vl / (2 * s) * (s / 4) ≡ vl / 8

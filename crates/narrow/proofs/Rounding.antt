@@ -11,7 +11,7 @@ use lib.Pow.{pow-pos, pow-add, pow-mono, shl-exact}
 use Rattle.element.specs.Contents.{elem}
 use Rattle.element.proofs.Filling.{part-length, span}
 use Rattle.narrow.specs.Narrow.{rounded, narrowed}
-use Rattle.narrow.specs.Needed.{Width, Got}
+use Rattle.part.specs.Parts.{Got}
 
 double : (k : ℕ) → 1 ≤ k → 2 ^ k ≡ 2 ^ (k - 1) * 2
 double k h = let e : k ≡ (k - 1) + 1 = omega arith in ap (λ (n : ℕ). 2 ^ n) e ∙ pow-add 2 (k - 1) 1
@@ -51,16 +51,8 @@ module _ (w s k x : ℕ) (small : s < w) (some : 1 ≤ k) where
       let l : 2 ^ s - 1 ≤ x / 2 ^ (k - 1) - x / 2 ^ (k - 1) / 2 = omega arith in
       rw (one-shl w s small, ← rounds k x some) (sym (min-eq-right l))
 
-pub width-le : {w : ℕ} → Width w → w ≤ 8
-width-le h = ⊎-elim (λ e. omega arith) (⊎-elim (λ e. omega arith) (λ e. omega arith)) h
-
 -- what is read of a part of at most 4 bytes fits 32 bits
-pub got-fits : (i n w : ℕ) (s : List ℕ) {x : ℕ} → i < n → length s ≡ n * w → w ≤ 4 → Got (take (i * w + w - i * w) (drop (i * w) s)) x → x < 2 ^ 32
-got-fits i n w s {x} h l k g =
+pub got-fits : (i n w : ℕ) (s : List ℕ) {m x : ℕ} → i < n → length s ≡ n * w → w ≤ 4 → Got (take (i * w + w - i * w) (drop (i * w) s)) m x → x < 2 ^ 32
+got-fits i n w s {m} {x} h l k g =
     let e : x < 2 ^ (8 * w) = rw (part-length i n w s h l) at (g .below) in
     let d : 8 * w ≤ 32 = omega arith in lt-of-lt-of-le e (pow-mono d)
-
--- what is read of the part at i is element i
-pub read : (i w : ℕ) (s : List ℕ) {x : ℕ} → Got (take (i * w + w - i * w) (drop (i * w) s)) x → x ≡ elem w i s
-unfolding elem
-read i w s g = g .is ∙ rw (span i w)

@@ -9,6 +9,7 @@ use Rattle.element.specs.Slots.{slot}
 use Rattle.element.proofs.Slots.{slot-length, loaded}
 use Rattle.lookup.specs.Lookup.{lutiFile}
 use Rattle.lookup.proofs.Places.{size-bounds, element-of, Turn, turn-at}
+use Rattle.part.proofs.Slots.{part-len}
 use Rattle.lookup.proofs.Files.{room-is, turned}
 use Rattle.lookup.proofs.table.luti4_file.Statement.{statement}
 use Rattle.lookup.proofs.table.luti4_file.Tie as tie

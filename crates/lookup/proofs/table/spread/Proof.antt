@@ -1,4 +1,6 @@
 -- `spread` meets its contract: after j turns o begins with the first j elements, and x is what is left of the byte. The measure is what is left of the count.
+use borrow.Author.Needs.{needs}
+use Rattle.part.proofs.Widths.{element-stored}
 use mathlib.Core.Path.{_≡_, refl, ap, _∙_}
 use mathlib.Core.List.{_++_}
 use Prim.Native.Nat.{ℕ, _+_, _-_, _*_, _/_, _%_, _^_, _≤_}
@@ -59,9 +61,7 @@ part-read-end : tie.Need-part-read-end Inv-loop μ-loop
 part-read-end c = omega (arith, index-lt (c .before .loop .x) (c .before .before .before .before .pre .kind))
 
 read-requires : tie.Need-read-requires Inv-loop μ-loop
-read-requires c κs =
-    let a = c .before .before .before .before .before in
-    part-length _ 16 4 (a .args .zt .now) (index-lt (c .before .before .loop .x) (a .pre .kind)) (a .pre .entries)
+read-requires c κs = search needs
 
 mul-a : tie.Need-mul-a Inv-loop μ-loop
 mul-a c = let h = room (c .before .before) in omega arith
@@ -79,10 +79,7 @@ part-write-end : tie.Need-part-write-end Inv-loop μ-loop
 part-write-end c = let h = room (c .before .before) in omega arith
 
 write-requires : tie.Need-write-requires Inv-loop μ-loop
-write-requires c κs =
-    let a = c .before .before .before .before .before .before .before in
-    let l = c .before .before .before .before .loop in
-    rw (part-length (l .j) (8 / a .args .k) (a .args .w) (l .o) (c .before .before .before .loop-test .taken) (l .inv .1 .0 ∙ a .pre .whole)) (element-width (a .pre .width))
+write-requires c κs = search needs
 
 shr-x : tie.Need-shr-x Inv-loop μ-loop
 shr-x c = let h = sizes (c .before .before .before .before .before .before .before .before .before .before .pre .kind) in omega arith
@@ -115,8 +112,8 @@ loop-again c =
               (c .before .before .before .before .before .before .loop-test .taken)
               (l .inv .1 .0 ∙ a .pre .whole)
               (l .inv .1 .1 .1)
-              (v .ensures .is ∙ entry-read (l .x) (a .args .b) (l .j) (a .args .zt .now) (a .pre .kind) (l .inv .1 .1 .0))
-              (c .before .before .write .ensures),
+              (entry-read (l .x) (a .args .b) (l .j) (a .args .zt .now) (a .pre .entries) (a .pre .kind) (l .inv .1 .1 .0) (v .ensures))
+              (element-stored (l .j) (8 / a .args .k) (a .args .w) (l .o) (c .before .before .before .before .before .before .loop-test .taken) (l .inv .1 .0 ∙ a .pre .whole) (element-width (a .pre .width)) _ (c .before .before .write .ensures)),
         ),
       ),
     )

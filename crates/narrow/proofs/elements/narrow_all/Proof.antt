@@ -1,4 +1,6 @@
 -- `narrow_all` meets its contract: after i turns o begins with the first i elements narrowed. The measure is what is left of the count.
+use borrow.Author.Needs.{needs}
+use Rattle.part.proofs.Widths.{width-le, element-read, element-stored}
 use mathlib.Core.Path.{_≡_, refl, ap, _∙_}
 use mathlib.Core.List.{_++_}
 use Prim.Native.Nat.{ℕ, _+_, _-_, _*_, _≤_}
@@ -8,7 +10,6 @@ use lib.ListN.{length, drop}
 use Rattle.element.specs.Contents.{elem, fill}
 use Rattle.element.proofs.Filling.{turn, part-length, again, done}
 use Rattle.narrow.specs.Narrow.{narrowed}
-use Rattle.narrow.proofs.Rounding.{width-le, read}
 use Rattle.narrow.proofs.elements.narrow_all.Statement.{statement}
 use Rattle.narrow.proofs.elements.narrow_all.Tie as tie
 
@@ -42,10 +43,7 @@ part-read-end : tie.Need-part-read-end Inv-loop μ-loop
 part-read-end c = omega (arith, room c)
 
 read-requires : tie.Need-read-requires Inv-loop μ-loop
-read-requires c κs =
-    let a = c .before .before .before .before .before in
-    let l = c .before .before .loop in
-    rw (part-length (l .i) (a .args .n) (a .args .w) (a .args .s .now) (c .before .loop-test .taken) (a .pre .source)) (a .pre .width)
+read-requires c κs = search needs
 
 narrow-one-requires : tie.Need-narrow-one-requires Inv-loop μ-loop
 narrow-one-requires c κs = let a = c .before .before .before .before .before .before in let h = width-le (a .pre .width) in omega arith
@@ -60,10 +58,7 @@ part-write-end : tie.Need-part-write-end Inv-loop μ-loop
 part-write-end c = omega (arith, room (c .before .before .before))
 
 write-requires : tie.Need-write-requires Inv-loop μ-loop
-write-requires c κs =
-    let a = c .before .before .before .before .before .before .before .before in
-    let l = c .before .before .before .before .before .loop in
-    rw (part-length (l .i) (a .args .n) (a .args .w) (l .o) (c .before .before .before .before .loop-test .taken) (l .inv .1 .0 ∙ a .pre .target)) (a .pre .width)
+write-requires c κs = search needs
 
 add-i : tie.Need-add-i Inv-loop μ-loop
 add-i c = omega arith
@@ -91,8 +86,8 @@ loop-again c =
             t
             (l .inv .1 .0 ∙ a .pre .target)
             (l .inv .1 .1)
-            (c .before .before .before .before .narrow-one .ensures ∙ ap (narrowed (a .args .size) (a .args .shift)) (read (l .i) (a .args .w) (a .args .s .now) (c .before .before .before .before .before .read .ensures)))
-            (c .before .before .write .ensures),
+            (c .before .before .before .before .narrow-one .ensures ∙ ap (narrowed (a .args .size) (a .args .shift)) (element-read (l .i) (a .args .n) (a .args .w) (a .args .s .now) t (a .pre .source) (a .pre .width) (c .before .before .before .before .before .read .ensures)))
+            (element-stored (l .i) (a .args .n) (a .args .w) (l .o) t (l .inv .1 .0 ∙ a .pre .target) (a .pre .width) _ (c .before .before .write .ensures)),
       ),
     )
 

@@ -5,7 +5,8 @@ use native.Mathlib.Omega.{arith}
 use lib.ListN.{length, take}
 use Rattle.element.specs.Slots.{slot}
 use Rattle.element.proofs.Slots.{slot-length, loaded}
-use Rattle.narrow.proofs.Files.{part-len, result-bounds, each-ready, finished}
+use Rattle.part.proofs.Slots.{part-len}
+use Rattle.narrow.proofs.Files.{result-bounds, each-ready, finished}
 use borrow.Author.Needs.{needs}
 use Rattle.narrow.proofs.elements.narrow_file.Statement.{statement}
 use Rattle.narrow.proofs.elements.narrow_file.Tie as tie

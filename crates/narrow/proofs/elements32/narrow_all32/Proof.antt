@@ -1,4 +1,5 @@
 -- `narrow_all32` meets its contract: after i turns o begins with the first i elements narrowed. The measure is what is left of the count.
+use Rattle.part.proofs.Widths.{width-le, element-read, element-stored}
 use mathlib.Core.Path.{_≡_, refl, ap, _∙_}
 use mathlib.Core.List.{_++_}
 use Prim.Native.Nat.{ℕ, _+_, _-_, _*_, _≤_}
@@ -8,7 +9,7 @@ use lib.ListN.{length, drop}
 use Rattle.element.specs.Contents.{elem, fill}
 use Rattle.element.proofs.Filling.{turn, part-length, again, done}
 use Rattle.narrow.specs.Narrow.{narrowed}
-use Rattle.narrow.proofs.Rounding.{width-le, got-fits, read}
+use Rattle.narrow.proofs.Rounding.{got-fits}
 use borrow.Author.Needs.{needs}
 use Rattle.narrow.proofs.elements32.narrow_all32.Statement.{statement}
 use Rattle.narrow.proofs.elements32.narrow_all32.Tie as tie
@@ -43,10 +44,7 @@ part-read-end : tie.Need-part-read-end Inv-loop μ-loop
 part-read-end c = omega (arith, room c)
 
 read-requires : tie.Need-read-requires Inv-loop μ-loop
-read-requires c κs =
-    let a = c .before .before .before .before .before in
-    let l = c .before .before .loop in
-    rw (part-length (l .i) (a .args .n) (a .args .w) (a .args .s .now) (c .before .loop-test .taken) (a .pre .0 .source)) (a .pre .0 .width)
+read-requires c κs = search needs
 
 cast-narrow-one32 : tie.Need-cast-narrow-one32 Inv-loop μ-loop
 cast-narrow-one32 c =
@@ -70,10 +68,7 @@ cast-write : tie.Need-cast-write Inv-loop μ-loop
 cast-write c = search needs
 
 write-requires : tie.Need-write-requires Inv-loop μ-loop
-write-requires c κs =
-    let a = c .before .before .before .before .before .before .before .before in
-    let l = c .before .before .before .before .before .loop in
-    rw (part-length (l .i) (a .args .n) (a .args .w) (l .o) (c .before .before .before .before .loop-test .taken) (l .inv .1 .0 ∙ a .pre .0 .target)) (a .pre .0 .width)
+write-requires c κs = search needs
 
 add-i : tie.Need-add-i Inv-loop μ-loop
 add-i c = omega arith
@@ -101,8 +96,8 @@ loop-again c =
             t
             (l .inv .1 .0 ∙ a .pre .0 .target)
             (l .inv .1 .1)
-            (c .before .before .before .before .narrow-one32 .ensures ∙ ap (narrowed (a .args .size) (a .args .shift)) (read (l .i) (a .args .w) (a .args .s .now) (c .before .before .before .before .before .read .ensures)))
-            (c .before .before .write .ensures),
+            (c .before .before .before .before .narrow-one32 .ensures ∙ ap (narrowed (a .args .size) (a .args .shift)) (element-read (l .i) (a .args .n) (a .args .w) (a .args .s .now) t (a .pre .0 .source) (a .pre .0 .width) (c .before .before .before .before .before .read .ensures)))
+            (element-stored (l .i) (a .args .n) (a .args .w) (l .o) t (l .inv .1 .0 ∙ a .pre .0 .target) (a .pre .0 .width) _ (c .before .before .write .ensures)),
       ),
     )
 
