@@ -8,8 +8,8 @@ use native.Mathlib.Numerals.{add-one}
 use native.Mathlib.Omega.{arith}
 use lib.ListN.{length, take, drop, getD}
 use lib.Pow.{pow-add}
-use Rattle.element.specs.Contents.{num, elem, field, fill}
-use Rattle.element.proofs.Filling.{span, same}
+use Rattle.element.specs.Contents.{elem, field, fill}
+use Rattle.element.proofs.Filling.{same}
 use Rattle.part.specs.Parts.{Width, Got, numberOf}
 use Rattle.part.proofs.Widths.{element-read}
 use Rattle.lookup.specs.Needed.{Kind}

@@ -1,8 +1,8 @@
--- What the private functions ask of their callers.
+-- Document 01, "LUTI4": what the private functions ask of their callers.
 use mathlib.Core.Path.{_≡_}
 use mathlib.Core.Logic.{_⊎_}
-use Prim.Native.Nat.{ℕ, suc, _*_, _+_, _/_, _%_, _^_, _≤_, _<_}
-use Rattle.part.specs.Parts.{Width, Lengths}
+use Prim.Native.Nat.{ℕ, suc, _*_, _+_, _/_, _≤_, _<_}
+use Rattle.part.specs.Parts.{Lengths}
 
 -- index widths
 abbrev pub Kind : ℕ → Type 0
@@ -35,4 +35,3 @@ pub record LutiReady (file table vl k s d segment zn first stride : ℕ) : Type 
   pub some : 0 < d
   pub from : zn < 32
   pub to : first + stride * d < 32 + stride
-

@@ -1,15 +1,13 @@
 -- A destination's part come back is its slot set as the definition says: by the lengths of what was made.
-use mathlib.Core.Path.{_≡_, sym, ap, _∙_}
+use mathlib.Core.Path.{_≡_, sym, _∙_}
 use mathlib.Core.Logic.{⊎-elim, _⊎_, inl, inr}
 use mathlib.Core.List.{List}
 use Prim.Native.Nat.{ℕ, _+_, _-_, _*_, _/_, _%_, _≤_}
-use native.Mathlib.Nat.{mul-assoc}
-use native.Mathlib.Numerals.{add-one}
 use native.Mathlib.Omega.{arith}
-use lib.ListN.{length, take, drop}
+use lib.ListN.{length}
 use borrow.Rule.Slice.PartMut.{putMid}
-use Rattle.element.specs.Contents.{elem, field, fill}
-use Rattle.element.specs.Slots.{slot, setSlot}
+use Rattle.element.specs.Contents.{elem, fill}
+use Rattle.element.specs.Slots.{slot}
 use Rattle.element.proofs.Filling.{fill-length}
 use Rattle.part.proofs.Slots.{put-back}
 use Rattle.narrow.specs.Narrow.{narrowed, uqrshrnbOf, uqrshrnbFile}

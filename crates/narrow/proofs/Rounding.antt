@@ -1,6 +1,5 @@
 -- The code's rounding is the definition's, and so is its cut: by halving the next whole number, once over size, shift and register width.
 use mathlib.Core.Path.{_≡_, sym, ap, _∙_}
-use mathlib.Core.Logic.{⊎-elim}
 use mathlib.Core.List.{List}
 use Prim.Native.Nat.{ℕ, _+_, _-_, _*_, _/_, _%_, _^_, _≤_, _<_}
 use native.Mathlib.Nat.{add-div-right, div-div-eq-div-mul, min-eq-left, min-eq-right, one-mul, lt-of-lt-of-le}
@@ -8,8 +7,7 @@ use native.Mathlib.Omega.{arith}
 use lib.Dec.{lit<}
 use lib.ListN.{length, take, drop}
 use lib.Pow.{pow-pos, pow-add, pow-mono, shl-exact}
-use Rattle.element.specs.Contents.{elem}
-use Rattle.element.proofs.Filling.{part-length, span}
+use Rattle.element.proofs.Filling.{part-length}
 use Rattle.narrow.specs.Narrow.{rounded, narrowed}
 use Rattle.part.specs.Parts.{Got}
 

@@ -1,7 +1,7 @@
--- What the private functions ask of their callers.
+-- Document 01, "UQRSHRNB": what the private functions ask of their callers.
 use mathlib.Core.Path.{_≡_}
 use mathlib.Core.Logic.{_⊎_}
-use Prim.Native.Nat.{ℕ, suc, _*_, _+_, _/_, _%_, _^_, _≤_, _<_}
+use Prim.Native.Nat.{ℕ, _*_, _≤_, _<_}
 use Rattle.part.specs.Parts.{Width, Lengths}
 
 -- the three sizes of a result, in bits

@@ -8,7 +8,7 @@ use native.Mathlib.Nat.{zero-mul}
 use native.Mathlib.Omega.{arith}
 use lib.ListN.{length, drop}
 use Rattle.element.specs.Contents.{elem, fill}
-use Rattle.element.proofs.Filling.{turn, part-length, again, done}
+use Rattle.element.proofs.Filling.{turn, again, done}
 use Rattle.lookup.proofs.Lookups.{sizes, index-lt, next, begin, element-width, entry-read}
 use Rattle.lookup.proofs.table.spread.Statement.{statement}
 use Rattle.lookup.proofs.table.spread.Tie as tie

@@ -8,7 +8,7 @@ use native.Mathlib.Nat.{zero-mul}
 use native.Mathlib.Omega.{arith}
 use lib.ListN.{length, drop}
 use Rattle.element.specs.Contents.{elem, fill}
-use Rattle.element.proofs.Filling.{turn, part-length, again, done}
+use Rattle.element.proofs.Filling.{turn, again, done}
 use Rattle.narrow.specs.Narrow.{narrowed}
 use Rattle.narrow.proofs.elements.narrow_all.Statement.{statement}
 use Rattle.narrow.proofs.elements.narrow_all.Tie as tie
