@@ -16,6 +16,6 @@ unfoldable pub luti4Ready : ℕ → ℕ → ℕ → ℕ → ℕ → ℕ → ℕ 
 luti4Ready z zt vl size i1 zn first stride =
     (eqb z 8192 && eqb zt 64 && lengthAllowed vl) && ((eqb size 16 || eqb size 32) && ltb i1 2 && ltb zn 32) && fourFit first stride
 
-unfoldable pub luti4Call : ℕ → ℕ → ℕ → ℕ → ℕ → ℕ → List ℕ → List ℕ → List ℕ
-luti4Call vl size i1 zn first stride zt z =
+unfoldable pub luti4File : ℕ → ℕ → ℕ → ℕ → ℕ → ℕ → List ℕ → List ℕ → List ℕ
+luti4File vl size i1 zn first stride zt z =
     pick (luti4Ready (length z) (length zt) vl size i1 zn first stride) (lutiFile 4 size vl 4 (i1 % (size / 16)) zn first stride zt z 4) z

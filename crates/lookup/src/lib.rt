@@ -3,7 +3,7 @@ mod table;
 
 ghost use mathlib.Core.Path.{_≡_};
 ghost use lib.ListN.{length};
-ghost use Rattle.lookup.specs.Calls.{fourFit, luti4Ready, luti4Call};
+ghost use Rattle.lookup.specs.Calls.{fourFit, luti4Ready, luti4File};
 ghost use Rattle.lookup.specs.Claims.{Claims};
 
 // Whether four destinations are consecutive or strided and all registers: no sum, so that none wraps.
@@ -45,7 +45,7 @@ pub fn luti4(
     stride: u32,
 ) -> bool
     ensures { λ r. ⌜ r ≡ luti4Ready (length (now (z .entry))) (length (now (zt .entry))) vl size i1 zn first stride ⌝ }
-    ensures { λ _. ⌜ now (z .exit) ≡ luti4Call vl size i1 zn first stride (now (zt .entry)) (now (z .entry)) ⌝ }
+    ensures { λ _. ⌜ now (z .exit) ≡ luti4File vl size i1 zn first stride (now (zt .entry)) (now (z .entry)) ⌝ }
 {
     if !luti4_ready(z.len(), zt.len(), vl, size, i1, zn, first, stride) {
         return false;

@@ -7,12 +7,12 @@ use lib.Dec.{eqb, leb, ltb}
 use borrow.Author.Tests.{eqb-true, ltb-true, leb-true}
 use Rattle.setting.specs.Allowed.{lengthAllowed}
 use Rattle.part.proofs.Tests.{and-split, or-split, lengths-of}
-use Rattle.narrow.specs.Calls.{uqrshrnbReady}
+use Rattle.narrow.specs.Calls.{narrowReady}
 use Rattle.narrow.specs.Needed.{NarrowReady}
 
-module _ (z vl size shift zn zd : ℕ) (ready : uqrshrnbReady z vl size shift zn zd ≡ true) where
+module _ (z vl size shift zn zd : ℕ) (ready : narrowReady z vl size shift zn zd ≡ true) where
   pub narrow-accepted : NarrowReady z vl size shift zn zd
-  unfolding uqrshrnbReady
+  unfolding narrowReady
   narrow-accepted =
       let a = and-split _ (ltb zn 32 && ltb zd 32) ready in
       let b = and-split (eqb z 8192 && lengthAllowed vl) ((eqb size 8 || eqb size 16 || eqb size 32) && ltb 0 shift && leb shift size) (a .0) in

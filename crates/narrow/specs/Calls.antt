@@ -8,9 +8,9 @@ use Rattle.setting.specs.Allowed.{lengthAllowed}
 use Rattle.element.specs.Size.{pick}
 use Rattle.narrow.specs.Narrow.{uqrshrnbFile}
 
-unfoldable pub uqrshrnbReady : ℕ → ℕ → ℕ → ℕ → ℕ → ℕ → Bool
-uqrshrnbReady z vl size shift zn zd =
+unfoldable pub narrowReady : ℕ → ℕ → ℕ → ℕ → ℕ → ℕ → Bool
+narrowReady z vl size shift zn zd =
     (eqb z 8192 && lengthAllowed vl) && ((eqb size 8 || eqb size 16 || eqb size 32) && ltb 0 shift && leb shift size) && (ltb zn 32 && ltb zd 32)
 
-unfoldable pub uqrshrnbCall : ℕ → ℕ → ℕ → ℕ → ℕ → List ℕ → List ℕ
-uqrshrnbCall vl size shift zn zd z = pick (uqrshrnbReady (length z) vl size shift zn zd) (uqrshrnbFile size shift vl zn zd z) z
+unfoldable pub narrowFile : ℕ → ℕ → ℕ → ℕ → ℕ → List ℕ → List ℕ
+narrowFile vl size shift zn zd z = pick (narrowReady (length z) vl size shift zn zd) (uqrshrnbFile size shift vl zn zd z) z

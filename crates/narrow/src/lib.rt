@@ -4,11 +4,11 @@ mod elements32;
 
 ghost use mathlib.Core.Path.{_≡_};
 ghost use lib.ListN.{length};
-ghost use Rattle.narrow.specs.Calls.{uqrshrnbReady, uqrshrnbCall};
+ghost use Rattle.narrow.specs.Calls.{narrowReady, narrowFile};
 ghost use Rattle.narrow.specs.Points.{Every, vectorPoints};
 
-fn uqrshrnb_ready(z: usize, vl: u32, size: u32, shift: u32, zn: u32, zd: u32) -> bool
-    ensures { λ r. ⌜ r ≡ uqrshrnbReady z vl size shift zn zd ⌝ }
+fn narrow_ready(z: usize, vl: u32, size: u32, shift: u32, zn: u32, zd: u32) -> bool
+    ensures { λ r. ⌜ r ≡ narrowReady z vl size shift zn zd ⌝ }
 {
     let lengths = (z == 8192) & part::length_allowed(vl);
     let fields = ((size == 8) | (size == 16) | (size == 32)) & (0 < shift) & (shift <= size);
@@ -17,10 +17,10 @@ fn uqrshrnb_ready(z: usize, vl: u32, size: u32, shift: u32, zn: u32, zd: u32) ->
 
 // UQRSHRNB of Zn into Zd. False, and nothing is written, for an argument outside its range.
 pub fn uqrshrnb(z: &mut [u8], vl: u32, size: u32, shift: u32, zn: u32, zd: u32) -> bool
-    ensures { λ r. ⌜ r ≡ uqrshrnbReady (length (now (z .entry))) vl size shift zn zd ⌝ }
-    ensures { λ _. ⌜ now (z .exit) ≡ uqrshrnbCall vl size shift zn zd (now (z .entry)) ⌝ }
+    ensures { λ r. ⌜ r ≡ narrowReady (length (now (z .entry))) vl size shift zn zd ⌝ }
+    ensures { λ _. ⌜ now (z .exit) ≡ narrowFile vl size shift zn zd (now (z .entry)) ⌝ }
 {
-    if !uqrshrnb_ready(z.len(), vl, size, shift, zn, zd) {
+    if !narrow_ready(z.len(), vl, size, shift, zn, zd) {
         return false;
     }
     elements::narrow_file(

@@ -4,7 +4,7 @@ use Prim.Native.Nat.{_-_, _/_, _%_}
 use native.Mathlib.Omega.{arith}
 use lib.ListN.{length}
 use Rattle.element.proofs.Tests.{said-no, said-yes}
-use Rattle.lookup.specs.Calls.{luti4Call}
+use Rattle.lookup.specs.Calls.{luti4File}
 use Rattle.lookup.specs.Needed.{LutiReady}
 use Rattle.lookup.proofs.Places.{size-bounds}
 use Rattle.lookup.proofs.Accepted.{luti4-accepted}
@@ -16,7 +16,7 @@ luti4-ready-requires : tie.Need-luti4-ready-requires
 luti4-ready-requires c κs = search needs
 
 returns : tie.Need-returns
-unfolding luti4Call
+unfolding luti4File
 returns c = let n = said-no (c .before .luti4-ready .ensures) (c .if1 .taken) in (sym n, rw n)
 
 accepted : (c : tie.Else1) → let a = c .before .before .before .before .args in LutiReady (length (a .z .now)) (length (a .zt .now)) (a .vl) 4 (a .size) 4 (a .i1 % (a .size / 16)) (a .zn) (a .first) (a .stride)
@@ -35,7 +35,7 @@ same-length : tie.Need-same-length
 same-length c = search needs
 
 returns-2 : tie.Need-returns-2
-unfolding luti4Call
+unfolding luti4File
 returns-2 c =
     let y = said-yes (c .before .before .before .before .before .luti4-ready .ensures) (c .before .before .before .before .if1 .left) in
     (sym y, rw y (c .before .before .luti4-file .ensures))
