@@ -1,8 +1,0 @@
--- The starred cases 4 and 5: each computes.
-use mathlib.Core.Path.{refl}
-use Rattle.vector.specs.Narrow.{rounded, narrowed}
-use Rattle.vector.specs.Points.{Every, vectorPoints}
-
-pub vector-points : Every vectorPoints
-unfolding narrowed rounded
-vector-points = (refl, (refl, (refl, (refl, (refl, tt)))))
