@@ -1,13 +1,12 @@
 -- The lines of two parts, the first of whole records, are the lines of the whole: by recursion on the first, a record at a time.
 use mathlib.Core.Path.{_≡_, refl, sym, ap, _∙_}
-use mathlib.Core.List.{List, [], _∷_, _++_, append-assoc, append-nil}
+use mathlib.Core.List.{List, [], _∷_, _++_, append-assoc}
 use Prim.Native.Nat.{ℕ, _+_, _-_, _%_, _≤_}
 use native.Mathlib.Omega.{arith}
-use lib.ListN.{length, getD, take, drop, length-take}
+use lib.ListN.{length, take, drop, length-take}
 use lib.Seq.{take-add}
 use Rattle.listing.specs.Lines.{wordOf, lineOf, shortLine, linesOf}
 use Rattle.listing.specs.Claims.{LinesAppend}
-use Rattle.listing.proofs.Spelled.{spelled}
 
 pub lines-append : LinesAppend
 unfolding linesOf
@@ -34,8 +33,3 @@ short-lines (a ∷ []) l m = refl
 short-lines (a ∷ b ∷ []) l m = refl
 short-lines (a ∷ b ∷ c ∷ []) l m = refl
 short-lines (a ∷ b ∷ c ∷ d ∷ s) l m = absurd (omega arith)
-
-pub one-line : (s : List ℕ) → length s ≡ 4 → linesOf s ≡ lineOf (wordOf (getD s 0 0) (getD s 1 0) (getD s 2 0) (getD s 3 0))
-unfolding linesOf
-one-line s l =
-    ap linesOf (spelled 4 s l) ∙ append-nil (lineOf (wordOf (getD s 0 0) (getD s 1 0) (getD s 2 0) (getD s 3 0)))

@@ -1,5 +1,5 @@
 -- Document 01, "The lister": what of the input is listed into a buffer, and what the buffer then holds.
-use Prim.Native.Nat.{ℕ, _-_, _*_, _/_, _%_, min}
+use Prim.Native.Nat.{ℕ, _+_, _-_, _*_, _/_, _%_, min}
 use mathlib.Core.Path.{_≡_}
 use mathlib.Core.List.{List, _++_}
 use lib.ListN.{length, take, drop}
@@ -21,6 +21,16 @@ over text out = text ++ drop (length text) out
 pub record Wrote (text before after : List ℕ) (r : ℕ) : Type 0 where
   pub count : r ≡ length text
   pub whole : after ≡ over text before
+
+-- a text of r bytes stands at the start of a buffer; nothing is said of the rest
+pub record Begins (text after : List ℕ) (r : ℕ) : Type 0 where
+  pub count : r ≡ length text
+  pub start : take r after ≡ text
+
+-- the same, and all but the six bytes behind the text is as it was: a line is 13 to 19 bytes long
+pub record Began (text before after : List ℕ) (r : ℕ) : Type 0 where
+  pub begins : Begins text after r
+  pub rest : drop (r + 6) after ≡ drop (r + 6) before
 
 unfoldable pub listedOf : List ℕ → List ℕ → Listed
 listedOf input out = record { read = readOf input out; written = length (textOf input out) }

@@ -1,11 +1,12 @@
 // Lists words: a line of text for each record of four bytes.
 ghost use mathlib.Core.Path.{_≡_};
-ghost use Prim.Native.Nat.{_*_, _%_, _≤_, _<_, min};
+ghost use Prim.Native.Nat.{_*_, _/_, _%_, _≤_, _<_, min};
 ghost use lib.ListN.{length, take};
-ghost use Rattle.listing.specs.Text.{glyphs, glyphOf, hexDigits};
+ghost use Rattle.listing.specs.Text.{glyphOf, hexDigits};
 ghost use Rattle.listing.specs.Name.{nameIndex};
 ghost use Rattle.listing.specs.Lines.{nameLine, wordOf, linesOf};
-ghost use Rattle.listing.specs.Buffer.{Wrote, listedOf, outOf, carriedOf};
+ghost use Rattle.listing.specs.Buffer.{Wrote, Begins, Began, listedOf, outOf, carriedOf};
+ghost use Rattle.listing.specs.Tables.{Pairs, Tails};
 ghost use Rattle.listing.specs.Claims.{LinesAppend};
 use setting::Setting;
 
@@ -14,26 +15,6 @@ pub struct Listed {
     pub read: usize,
     pub written: usize,
 }
-
-// 0123456789abcdef
-const GLYPHS: [u8; 16] = [
-    48,
-    49,
-    50,
-    51,
-    52,
-    53,
-    54,
-    55,
-    56,
-    57,
-    97,
-    98,
-    99,
-    100,
-    101,
-    102,
-];
 
 // The place of the word's name in `names`.
 fn name_index(word: u32) -> usize
@@ -48,13 +29,21 @@ fn name_index(word: u32) -> usize
     )
 }
 
-// The table is lent, so that the eight digits of a word share one.
-fn glyph(table: &[u8; 16], n: u32) -> u8
-    requires { ⌜ now table ≡ glyphs ⌝ }
+// Of the low byte of n. The table is lent, so that all words share one.
+fn high(pairs: &[u8; 512], n: u32) -> u8
+    requires { ⌜ Pairs (now pairs) ⌝ }
+    ensures { λ r. ⌜ r ≡ glyphOf (n / 16 % 16) ⌝ }
+{
+    let i = (n % 256) as usize;
+    pairs[2 * i]
+}
+
+fn low(pairs: &[u8; 512], n: u32) -> u8
+    requires { ⌜ Pairs (now pairs) ⌝ }
     ensures { λ r. ⌜ r ≡ glyphOf (n % 16) ⌝ }
 {
-    let i = (n % 16) as usize;
-    table[i]
+    let i = (n % 256) as usize;
+    pairs[2 * i + 1]
 }
 
 fn word(a: u8, b: u8, c: u8, d: u8) -> u32
@@ -63,19 +52,18 @@ fn word(a: u8, b: u8, c: u8, d: u8) -> u32
     (a as u32) + 256 * (b as u32) + 65536 * (c as u32) + 16777216 * (d as u32)
 }
 
-fn hex(w: u32, out: &mut [u8])
-    requires { ⌜ length (now out) ≡ 8 ⌝ }
+fn hex(pairs: &[u8; 512], w: u32, out: &mut [u8])
+    requires { ⌜ (Pairs (now pairs)) × (length (now out) ≡ 8) ⌝ }
     ensures { λ _. ⌜ now (out .exit) ≡ hexDigits 8 w ⌝ }
 {
-    let table = GLYPHS;
-    out[0] = glyph(&table, w / 268435456);
-    out[1] = glyph(&table, w / 16777216);
-    out[2] = glyph(&table, w / 1048576);
-    out[3] = glyph(&table, w / 65536);
-    out[4] = glyph(&table, w / 4096);
-    out[5] = glyph(&table, w / 256);
-    out[6] = glyph(&table, w / 16);
-    out[7] = glyph(&table, w);
+    out[0] = high(pairs, w / 16777216);
+    out[1] = low(pairs, w / 16777216);
+    out[2] = high(pairs, w / 65536);
+    out[3] = low(pairs, w / 65536);
+    out[4] = high(pairs, w / 256);
+    out[5] = low(pairs, w / 256);
+    out[6] = high(pairs, w);
+    out[7] = low(pairs, w);
 }
 
 // A text at the start of out.
@@ -103,12 +91,12 @@ fn name(i: usize, out: &mut [u8]) -> usize
 }
 
 // The line of one record.
-fn line(quad: &[u8], out: &mut [u8]) -> usize
-    requires { ⌜ (length (now quad) ≡ 4) × (length (now out) ≡ 19) ⌝ }
+fn line(pairs: &[u8; 512], quad: &[u8], out: &mut [u8]) -> usize
+    requires { ⌜ (Pairs (now pairs)) × (length (now quad) ≡ 4) × (length (now out) ≡ 19) ⌝ }
     ensures { λ r. ⌜ Wrote (linesOf (now (quad .entry))) (now (out .entry)) (now (out .exit)) r ⌝ }
 {
     let w = word(quad[0], quad[1], quad[2], quad[3]);
-    hex(w, &mut out[..8]);
+    hex(pairs, w, &mut out[..8]);
     let i = name_index(w);
     let n = name(i, &mut out[8..19]);
     8 + n
@@ -124,22 +112,81 @@ fn short(left: &[u8], out: &mut [u8]) -> usize
     put(&text, out)
 }
 
-// The lines of the first n records.
-fn records(input: &[u8], out: &mut [u8], n: usize) -> usize
-    requires { ⌜ (4 * n ≤ length (now input)) × (19 * n ≤ length (now out)) ⌝ }
-    ensures { λ r. ⌜ (Wrote (linesOf (take (4 * n) (now (input .entry)))) (now (out .entry)) (now (out .exit)) r) × (r ≤ 19 * n) ⌝ }
+// The row of the name, all 11 bytes of it: no jump on i, unlike `name`, which would be mispredicted.
+fn tail(rows: &[u8], lengths: &[usize; 7], i: usize, out: &mut [u8]) -> usize
+    requires { ⌜ (Tails (now rows) (now lengths)) × (i < 7) × (length (now out) ≡ 11) ⌝ }
+    ensures { λ r. ⌜ (Begins (nameLine i) (now (out .exit)) r) × (5 ≤ r) ⌝ }
 {
+    let at = 16 * i;
+    let end = at + 11;
+    put(&rows[at..end], out);
+    lengths[i]
+}
+
+// The line of one record, and behind it up to six bytes of no meaning.
+fn wide_line(
+    pairs: &[u8; 512],
+    rows: &[u8],
+    lengths: &[usize; 7],
+    quad: &[u8],
+    out: &mut [u8],
+) -> usize
+    requires { ⌜ (Pairs (now pairs)) × (Tails (now rows) (now lengths)) × (length (now quad) ≡ 4) × (length (now out) ≡ 19) ⌝ }
+    ensures { λ r. ⌜ (Begins (linesOf (now (quad .entry))) (now (out .exit)) r) × (13 ≤ r) ⌝ }
+{
+    let w = word(quad[0], quad[1], quad[2], quad[3]);
+    hex(pairs, w, &mut out[..8]);
+    let i = name_index(w);
+    let n = tail(rows, lengths, i, &mut out[8..19]);
+    8 + n
+}
+
+// The lines of the first n records, and behind them up to six bytes of no meaning: each line covers
+// those of the one before.
+fn wide_lines(pairs: &[u8; 512], input: &[u8], out: &mut [u8], n: usize) -> usize
+    requires { ⌜ (Pairs (now pairs)) × (4 * n ≤ length (now input)) × (19 * n ≤ length (now out)) ⌝ }
+    ensures { λ r. ⌜ (Began (linesOf (take (4 * n) (now (input .entry)))) (now (out .entry)) (now (out .exit)) r) × (r ≤ 19 * n) ⌝ }
+{
+    // What follows the digits, in rows of 16; and how much of each row. Made once, before the loop.
+    let rows =
+        b" PEXT1\n......... PEXT2\n......... DUP\n........... LUTI4C\n........ LUTI4S\n........ UQRSHRNB\n...... UNDEFINED\n.....";
+    let lengths = [7, 7, 5, 8, 8, 10, 11];
     let mut i = 0;
     let mut from = 0;
     let mut at = 0;
     while i < n {
         let next = from + 4;
         let end = at + 19;
-        at += line(&input[from..next], &mut out[at..end]);
+        at += wide_line(pairs, rows, &lengths, &input[from..next], &mut out[at..end]);
         from = next;
         i += 1;
     }
     at
+}
+
+// The lines of the first n records; the last is written exactly, so that the rest of out stays.
+fn records(input: &[u8], out: &mut [u8], n: usize) -> usize
+    requires { ⌜ (4 * n ≤ length (now input)) × (19 * n ≤ length (now out)) ⌝ }
+    ensures { λ r. ⌜ (Wrote (linesOf (take (4 * n) (now (input .entry)))) (now (out .entry)) (now (out .exit)) r) × (r ≤ 19 * n) ⌝ }
+{
+    if n == 0 {
+        return 0;
+    }
+    // The two digits of each byte.
+    let pairs = b"000102030405060708090a0b0c0d0e0f101112131415161718191a1b1c1d1e1f\
+        202122232425262728292a2b2c2d2e2f303132333435363738393a3b3c3d3e3f\
+        404142434445464748494a4b4c4d4e4f505152535455565758595a5b5c5d5e5f\
+        606162636465666768696a6b6c6d6e6f707172737475767778797a7b7c7d7e7f\
+        808182838485868788898a8b8c8d8e8f909192939495969798999a9b9c9d9e9f\
+        a0a1a2a3a4a5a6a7a8a9aaabacadaeafb0b1b2b3b4b5b6b7b8b9babbbcbdbebf\
+        c0c1c2c3c4c5c6c7c8c9cacbcccdcecfd0d1d2d3d4d5d6d7d8d9dadbdcdddedf\
+        e0e1e2e3e4e5e6e7e8e9eaebecedeeeff0f1f2f3f4f5f6f7f8f9fafbfcfdfeff";
+    let from = 4 * (n - 1);
+    let next = 4 * n;
+    let at = wide_lines(pairs, input, out, n - 1);
+    let end = at + 19;
+    let more = line(pairs, &input[from..next], &mut out[at..end]);
+    at + more
 }
 
 fn least(a: usize, b: usize) -> usize

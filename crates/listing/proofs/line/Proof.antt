@@ -1,34 +1,31 @@
 -- `listing::line` meets its contract: the digits and behind them the name, as `lineOf` has them.
-use mathlib.Core.Path.{_≡_, refl, _∙_}
+use mathlib.Core.Path.{_≡_}
 use mathlib.Core.List.{List, _++_}
 use Prim.Native.Nat.{ℕ, _+_}
 use native.Mathlib.Omega.{arith}
-use lib.ListN.{length, getD, drop, length-take}
+use lib.ListN.{length, drop, length-take}
 use borrow.Rule.Slice.PartMut.{midOf, putMid}
 use borrow.Author.Needs.{needs}
 use Rattle.listing.specs.Text.{hexDigits}
 use Rattle.listing.specs.Name.{nameIndex}
-use Rattle.listing.specs.Lines.{nameLine, lineOf, wordOf, linesOf}
+use Rattle.listing.specs.Lines.{nameLine, linesOf}
 use Rattle.listing.specs.Buffer.{Wrote}
 use Rattle.listing.proofs.Over.{wrote-fits, wrote-more}
-use Rattle.listing.proofs.Append.{one-line}
+use Rattle.listing.proofs.Parts.{quadWord, line-text, digits-first}
 use Rattle.listing.proofs.line.Statement.{statement}
 use Rattle.listing.proofs.line.Tie as tie
 
 whole-line : (q out : List ℕ) {hs ys : List ℕ} {w i r : ℕ}
     → length q ≡ 4
     → length out ≡ 19
-    → w ≡ wordOf (getD q 0 0) (getD q 1 0) (getD q 2 0) (getD q 3 0)
+    → w ≡ quadWord q
     → hs ≡ hexDigits 8 w
     → i ≡ nameIndex w
     → Wrote (nameLine i) (midOf 8 11 (hs ++ drop 8 out)) ys r
     → length ys ≡ length (midOf 8 11 (hs ++ drop 8 out))
     → Wrote (linesOf q) out (putMid 8 11 (hs ++ drop 8 out) ys) (8 + r)
-unfolding hexDigits lineOf
-whole-line q out {hs} {w = w} {i = i} l m ew eh ei v k =
-    let h : Wrote (hexDigits 8 w) out (hs ++ drop 8 out) 8 = record { count = refl; whole = rw eh } in
-    let t : linesOf q ≡ hexDigits 8 w ++ nameLine i = one-line q l ∙ rw (ei, ew) in
-    rw t (wrote-more {e = 19} h v k (omega arith) (omega arith))
+whole-line q out {w = w} l m ew eh ei v k =
+    rw (line-text q l ew ei) (wrote-more {e = 19} (digits-first out w eh) v k (omega arith) (omega arith))
 
 shared-slice-read-word : tie.Need-shared-slice-read-word
 shared-slice-read-word c = search needs
@@ -52,7 +49,7 @@ slice-aggregate-hex : tie.Need-slice-aggregate-hex
 slice-aggregate-hex c = simp length-take (omega arith)
 
 hex-requires : tie.Need-hex-requires
-hex-requires c κs = simp length-take (omega arith)
+hex-requires c κs = (search needs, simp length-take (omega arith))
 
 name-index-requires : tie.Need-name-index-requires
 name-index-requires c κs = search needs
@@ -83,8 +80,8 @@ returns c =
     whole-line
     (s .args .quad .now)
     (s .args .out .now)
-    (s .pre .0)
     (s .pre .1)
+    (s .pre .2)
     (h .before .before .word .ensures)
     (h .hex .ensures)
     (c .before .before .before .before .name-index .ensures .0)

@@ -1,103 +1,117 @@
--- `listing::records` meets its contract: each turn lists one record more, behind the lines of those before.
-use mathlib.Core.Path.{_≡_, refl, _∙_}
+-- `listing::records` meets its contract: all lines but the last leave up to six bytes behind their end, which the last, written exactly, covers.
+use mathlib.Core.Path.{_≡_, refl}
 use mathlib.Core.List.{List}
 use Prim.Native.Nat.{ℕ, _+_, _-_, _*_, _≤_}
 use native.Mathlib.Omega.{arith}
-use lib.ListN.{length, take, length-take, length-drop}
+use lib.ListN.{length, take, drop, length-take, length-drop}
+use borrow.Rule.Slice.PartMut.{midOf, putMid}
 use Rattle.listing.specs.Lines.{linesOf}
-use Rattle.listing.specs.Buffer.{Wrote}
-use Rattle.listing.proofs.Over.{wrote-fits, wrote-more}
+use Rattle.listing.specs.Buffer.{Wrote, Began}
+use Rattle.listing.proofs.Over.{wrote-fits, part-fits}
+use Rattle.listing.proofs.Begins.{began-last}
 use Rattle.listing.proofs.Append.{lines-next}
+use Rattle.listing.proofs.Parts.{line-long}
+use Rattle.listing.proofs.Tables.{pairs-right}
+use borrow.Author.Needs.{needs}
 use Rattle.listing.proofs.records.Statement.{statement}
 use Rattle.listing.proofs.records.Tie as tie
 
--- after i turns the first i records are listed
-record Listing (input out₀ : List ℕ) (n : ℕ) (out : List ℕ) (i from at : ℕ) : Type 0 where
-  within : i ≤ n
-  place : from ≡ 4 * i
-  room : at ≤ 19 * i
-  same : length out ≡ length out₀
-  text : Wrote (linesOf (take from input)) out₀ out at
-
-abbrev Inv-loop : tie.InvT-loop
-Inv-loop input out₀ n i₀ from₀ at₀ out i from at = Listing input out₀ n out i from at
-
-abbrev μ-loop : tie.MeasureT-loop
-μ-loop input out₀ n i₀ from₀ at₀ out i from at = n - i
-
-loop-holds : tie.Need-loop-holds Inv-loop μ-loop
+none : (input out : List ℕ) (n : ℕ) → n ≡ 0 → (Wrote (linesOf (take (4 * n) input)) out out 0) × (0 ≤ 19 * n)
 unfolding linesOf
-loop-holds c =
-    record { within = omega arith; place = refl; room = omega arith; same = refl; text = record { count = refl; whole = refl } }
+none input out n e = rw e (record { count = refl; whole = refl }, omega arith)
 
-add-next : tie.Need-add-next Inv-loop μ-loop
-add-next c = omega arith
+-- the last of n records, behind the lines of the others
+module _ (input out : List ℕ) (n : ℕ) (some : n ≡ 0 → ⊥) (have : 4 * n ≤ length input) (room : 19 * n ≤ length out) where
+  last : {o ys : List ℕ} {at r : ℕ}
+      → length o ≡ length out
+      → Began (linesOf (take (4 * (n - 1)) input)) out o at
+      → at ≤ 19 * (n - 1)
+      → Wrote (linesOf (take (4 * n - 4 * (n - 1)) (drop (4 * (n - 1)) input))) (midOf at (at + 19 - at) o) ys r
+      → length ys ≡ length (midOf at (at + 19 - at) o)
+      → (Wrote (linesOf (take (4 * n) input)) out (putMid at (at + 19 - at) o ys) (at + r)) × (at + r ≤ 19 * n)
+  last {o} {ys} {at} {r} l w g v k =
+      let q = take (4 * n - 4 * (n - 1)) (drop (4 * (n - 1)) input) in
+      let e : length q ≡ 4 = simp (length-take, length-drop) (omega arith) in
+      let f : 6 ≤ r = omega (arith, line-long q e, v .count) in (
+        rw (lines-next input (4 * (n - 1)) (4 * n) (omega arith) (omega arith) have) (began-last {e = at + 19} w v k f (omega arith) (omega arith)),
+        omega (arith, part-fits (at + 19 - at) (drop at o) v k),
+      )
 
-add-end : tie.Need-add-end Inv-loop μ-loop
-add-end c = omega arith
-
-sub-line : tie.Need-sub-line Inv-loop μ-loop
-sub-line c = omega arith
-
-part-line-start : tie.Need-part-line-start Inv-loop μ-loop
-part-line-start c = omega arith
-
-part-line-end : tie.Need-part-line-end Inv-loop μ-loop
-part-line-end c = omega arith
-
-sub-line-2 : tie.Need-sub-line-2 Inv-loop μ-loop
-sub-line-2 c = omega arith
-
-part-line-start-2 : tie.Need-part-line-start-2 Inv-loop μ-loop
-part-line-start-2 c = omega arith
-
-part-line-end-2 : tie.Need-part-line-end-2 Inv-loop μ-loop
-part-line-end-2 c = omega arith
-
-line-requires : tie.Need-line-requires Inv-loop μ-loop
-line-requires c κs = simp (length-take, length-drop) (omega arith)
-
-add-at : tie.Need-add-at Inv-loop μ-loop
-add-at c = let l = c .before .before .line in omega (arith, simp length-take at (wrote-fits (l .ensures) (l .kept .1 .0)))
-
-add-i : tie.Need-add-i Inv-loop μ-loop
-add-i c = omega arith
-
-loop-less : tie.Need-loop-less Inv-loop μ-loop
-loop-less c = omega arith
-
-loop-again : tie.Need-loop-again Inv-loop μ-loop
-loop-again c =
-    let r = c .before .before .line in
-    let t = c .before .before .before .before .before .before in
-    let l = t .loop in
-    let s = t .before .before .before in
-    record {
-      within = omega arith;
-      place = omega arith;
-      room = omega (arith, simp length-take at (wrote-fits (r .ensures) (r .kept .1 .0)));
-      same = c .before .out .given .1 ∙ l .inv .same;
-      text =
-          rw (lines-next (s .args .input .now) (l .from) (l .from + 4) (omega arith) (omega arith) (omega arith))
-          (wrote-more {e = l .at + 19} (l .inv .text) (r .ensures) (r .kept .1 .0) (omega arith) (omega arith));
-    }
-
-same-length : tie.Need-same-length Inv-loop μ-loop
-same-length c = c .before .loop .inv .same
-
-returns : tie.Need-returns Inv-loop μ-loop
+returns : tie.Need-returns
 returns c =
-    let l = c .before .loop in
-    let e : 4 * (c .before .before .before .before .args .n) ≡ l .from = omega arith in (rw e (l .inv .text), omega arith)
+    let s = c .before .before .before in none (s .args .input .now) (s .args .out .now) (s .args .n) (c .if1 .taken)
+
+sub-from : tie.Need-sub-from
+sub-from c = search needs
+
+mul-from : tie.Need-mul-from
+mul-from c = search needs
+
+mul-next : tie.Need-mul-next
+mul-next c = search needs
+
+sub-wide-lines : tie.Need-sub-wide-lines
+sub-wide-lines c = search needs
+
+wide-lines-requires : tie.Need-wide-lines-requires
+wide-lines-requires c κs = (pairs-right _ tt tt, omega arith, omega arith)
+
+add-end : tie.Need-add-end
+add-end c = search needs
+
+sub-line : tie.Need-sub-line
+sub-line c = search needs
+
+part-line-start : tie.Need-part-line-start
+part-line-start c = search needs
+
+part-line-end : tie.Need-part-line-end
+part-line-end c = search needs
+
+sub-line-2 : tie.Need-sub-line-2
+sub-line-2 c = search needs
+
+part-line-start-2 : tie.Need-part-line-start-2
+part-line-start-2 c = search needs
+
+part-line-end-2 : tie.Need-part-line-end-2
+part-line-end-2 c = search needs
+
+line-requires : tie.Need-line-requires
+line-requires c κs =
+    (pairs-right _ tt tt, simp (length-take, length-drop) (omega arith), simp (length-take, length-drop) (omega arith))
+
+add-result : tie.Need-add-result
+add-result c =
+    let l = c .before .before .line in omega (arith, simp length-take at (wrote-fits (l .ensures) (l .kept .1 .1 .0)))
+
+same-length : tie.Need-same-length
+same-length c = search needs
+
+returns-2 : tie.Need-returns-2
+returns-2 c =
+    let l = c .before .before in
+    let o = l .before .before .before .before in
+    let w = o .before in
+    let i = w .before .before .before in
+    let s = i .before .before .before in
+    last (s .args .input .now) (s .args .out .now) (s .args .n) (i .if1 .left) (s .pre .0) (s .pre .1)
+    (w .wide-lines .kept .1 .1 .0)
+    (w .wide-lines .ensures .0)
+    (w .wide-lines .ensures .1)
+    (l .line .ensures)
+    (l .line .kept .1 .1 .0)
 
 pub records-spec : {M : Type 1} → statement M
 records-spec =
     tie.close
     (tie.spec
-    Inv-loop
-    μ-loop
-    loop-holds
-    add-next
+    returns
+    sub-from
+    mul-from
+    mul-next
+    sub-wide-lines
+    wide-lines-requires
     add-end
     sub-line
     part-line-start
@@ -106,9 +120,6 @@ records-spec =
     part-line-start-2
     part-line-end-2
     line-requires
-    add-at
-    add-i
-    loop-less
-    loop-again
+    add-result
     same-length
-    returns)
+    returns-2)
