@@ -7,10 +7,10 @@ use native.Mathlib.Omega.{arith}
 use lib.Dec.{T, eqb, ltb, leb, lit<, lit≤, ltb→lt, eqb→eq}
 use lib.Count.{trailingZeros}
 use borrow.Author.Tests.{eq-eqb, eqb-true, ltb-true, leb-true, lt-ltb, le-ltb, le-leb, not-true}
-use Rattle.element.specs.Size.{sizeOf}
+use Rattle.element.specs.Size.{sizeOf, isSize}
 use Rattle.element.proofs.Below.{both, below}
 use Rattle.encoding.specs.Layout.{fieldsOf}
-use Rattle.encoding.specs.Instructions.{isP, isZ, isSize, pextInRange, dupInRange, lutiInRange, narrowInRange, inRange, rawSize, rawPext, dupOffset, rawDupBits, narrowSize, rawOf}
+use Rattle.encoding.specs.Instructions.{isP, isZ, pextInRange, dupInRange, lutiInRange, narrowInRange, inRange, rawSize, rawPext, dupOffset, rawDupBits, narrowSize, rawOf}
 use Rattle.encoding.specs.Rows.{Row, rowOf, pext1, pext2, dup, luti4c, luti4s, uqrshrnb}
 use Rattle.encoding.specs.declared.Instruction.{Instruction}
 use Rattle.encoding.specs.declared.Instruction.the-variants.{Pext1, Pext2, Dup, Luti4c, Luti4s, Uqrshrnb}

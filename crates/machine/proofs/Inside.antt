@@ -1,12 +1,11 @@
 -- No index position of LUTI4 is at or past VL/4, at either size: linear arithmetic on VL divided by the size.
-use mathlib.Core.Path.{_≡_, sym}
-use mathlib.Core.Bool.{Bool, true, _&&_, _||_}
-use Prim.Native.Nat.{ℕ, _+_, _*_, _/_, _%_, _≤_}
+use mathlib.Core.Path.{_≡_}
+use mathlib.Core.Bool.{true, _&&_, _||_}
+use Prim.Native.Nat.{ℕ, _/_, _%_}
 use native.Mathlib.Omega.{arith}
 use lib.Dec.{eqb, ltb, leb}
 use borrow.Author.Tests.{eqb-true, eqb-false, le-leb}
 use Rattle.encoding.specs.Instructions.{inRange}
-use Rattle.encoding.specs.declared.Instruction.{Instruction}
 use Rattle.encoding.specs.declared.Instruction.the-variants.{Luti4c, Luti4s}
 use Rattle.encoding.proofs.Apart.{decide}
 use Rattle.encoding.proofs.FieldLaws.{luti-ranges}

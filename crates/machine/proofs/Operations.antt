@@ -1,28 +1,28 @@
 -- What each leaf leaves of its file is the machine with the instruction's new contents put: the tests of the leaf hold of fields in range, and the slots are the table's.
-use mathlib.Core.Path.{_≡_, refl, sym, ap, ap₂, _∙_}
-use mathlib.Core.Bool.{Bool, true, false, _&&_, _||_}
+use mathlib.Core.Path.{_≡_, refl, sym}
+use mathlib.Core.Bool.{true, _&&_, _||_}
 use mathlib.Core.List.{List, [], _∷_}
 use Prim.Native.Nat.{ℕ, zero, suc, _+_, _-_, _*_, _/_, _%_, _<_, _≤_}
 use native.Mathlib.Nat.{add-zero}
 use native.Mathlib.Omega.{arith}
-use lib.Dec.{eqb, ltb, leb, lit≤}
+use lib.Dec.{eqb, ltb, leb}
 use lib.ListN.{length, getD}
 use lib.Seq.{slice, take-all}
-use borrow.Author.Tests.{eq-eqb, lt-ltb, le-leb, ltb-true, leb-true, eqb-true}
+use borrow.Author.Tests.{lt-ltb, le-leb, ltb-true, leb-true}
 use Rattle.setting.specs.Allowed.{lengthAllowed}
-use Rattle.element.specs.Size.{pick}
-use Rattle.element.specs.Slots.{slot, setSlot}
+use Rattle.element.specs.Slots.{slot}
 use Rattle.order.specs.Touch.{gets, puts}
-use Rattle.encoding.specs.Instructions.{isSize, inRange, pextInRange, dupInRange, narrowInRange}
+use Rattle.encoding.specs.Instructions.{inRange, pextInRange, dupInRange, narrowInRange}
 use Rattle.encoding.proofs.FieldLaws.{and-true, size-cases, pext-ranges, dup-ranges, luti-ranges, strided-zd, narrow-ranges}
 use Rattle.encoding.proofs.WordLaws.{known-range}
 use Rattle.encoding.specs.declared.Instruction.{Instruction}
 use Rattle.encoding.specs.declared.Instruction.the-variants.{Pext1, Pext2, Dup, Luti4c, Luti4s, Uqrshrnb}
-use Rattle.predicate.specs.Pext.{pextOf, pextReady, pextSlots, pextLeaves}
-use Rattle.predicate.specs.Dup.{dupOf, dupReady, dupLeaves}
-use Rattle.vector.specs.Lookup.{lutiOf, lutiFile}
-use Rattle.vector.specs.Narrow.{uqrshrnbOf, uqrshrnbFile}
-use Rattle.vector.specs.Calls.{luti4Ready, luti4File, narrowReady, narrowFile}
+use Rattle.predicate.specs.Pext.{pextReady, pextSlots, pextLeaves}
+use Rattle.predicate.specs.Dup.{dupReady, dupLeaves}
+use Rattle.lookup.specs.Lookup.{lutiFile}
+use Rattle.narrow.specs.Narrow.{uqrshrnbFile}
+use Rattle.lookup.specs.Calls.{luti4Ready, luti4File}
+use Rattle.narrow.specs.Calls.{narrowReady, narrowFile}
 use Rattle.machine.specs.Machine.{Machine, machine, get, put}
 use Rattle.machine.specs.Gives.{givesOf}
 use Rattle.machine.specs.Done.{Ready, doneOf}

@@ -4,8 +4,8 @@ use Prim.Native.Nat.{ℕ, _+_, _*_, _/_, _%_}
 use lib.ListN.{getD}
 use Rattle.predicate.specs.Pext.{pextOf}
 use Rattle.predicate.specs.Dup.{dupOf}
-use Rattle.vector.specs.Lookup.{lutiOf}
-use Rattle.vector.specs.Narrow.{uqrshrnbOf}
+use Rattle.lookup.specs.Lookup.{lutiOf}
+use Rattle.narrow.specs.Narrow.{uqrshrnbOf}
 use Rattle.encoding.specs.declared.Instruction.{Instruction}
 use Rattle.encoding.specs.declared.Instruction.the-variants.{Pext1, Pext2, Dup, Luti4c, Luti4s, Uqrshrnb}
 

@@ -1,8 +1,8 @@
 -- Document 01, "for one step 1, 2, 3, then 4 or 5, 6, 7": what one word is refused for, and what it leaves.
-use mathlib.Core.Bool.{Bool, true, false, not, _&&_, _||_}
+use mathlib.Core.Bool.{Bool, _&&_}
 use mathlib.Core.List.{List, [], _∷_}
-use Prim.Native.Nat.{ℕ, zero, suc, _+_, _*_, _/_, _%_}
-use lib.Dec.{eqb, ltb, leb}
+use Prim.Native.Nat.{ℕ, zero, suc, _/_, _%_}
+use lib.Dec.{eqb, leb}
 use lib.ListN.{length}
 use Rattle.setting.specs.Allowed.{allowedOf, hasFeature}
 use Rattle.setting.specs.Numbers.{Outcome, accept, refuse, numberOf}
@@ -14,7 +14,7 @@ use Rattle.order.specs.Touch.{perform, fromReads}
 use Rattle.encoding.specs.Decode.{decodeOf}
 use Rattle.encoding.specs.declared.Instruction.{Instruction}
 use Rattle.encoding.specs.declared.Instruction.the-variants.{Pext1, Pext2, Dup, Luti4c, Luti4s, Uqrshrnb}
-use Rattle.vector.specs.Lookup.{positionOf}
+use Rattle.lookup.specs.Lookup.{positionOf}
 use Rattle.machine.specs.Machine.{Machine, machine, get, put, next}
 use Rattle.machine.specs.Touched.{readsOf, writesOf}
 use Rattle.machine.specs.Gives.{givesOf}

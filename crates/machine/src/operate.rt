@@ -69,10 +69,10 @@ pub(crate) fn operate(
             );
         }
         Instruction::Luti4c { size, i1, zn, zd } => {
-            vector::luti4(z, zt, vl, size, i1, zn, zd, 1);
+            lookup::luti4(z, zt, vl, size, i1, zn, zd, 1);
         }
         Instruction::Luti4s { size, i1, zn, zd } => {
-            vector::luti4(z, zt, vl, size, i1, zn, zd, 4);
+            lookup::luti4(z, zt, vl, size, i1, zn, zd, 4);
         }
         Instruction::Uqrshrnb {
             size,
@@ -80,7 +80,7 @@ pub(crate) fn operate(
             zn,
             zd,
         } => {
-            vector::uqrshrnb(z, vl, size, shift, zn, zd);
+            narrow::uqrshrnb(z, vl, size, shift, zn, zd);
         }
     }
 }

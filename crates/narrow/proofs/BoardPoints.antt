@@ -1,7 +1,8 @@
 -- The starred cases 4 and 5: each computes.
 use mathlib.Core.Path.{refl}
 use Rattle.narrow.specs.Narrow.{rounded, narrowed}
-use Rattle.narrow.specs.Points.{Every, vectorPoints}
+use Rattle.element.specs.Every.{Every}
+use Rattle.narrow.specs.Points.{vectorPoints}
 
 pub vector-points : Every vectorPoints
 unfolding narrowed rounded

@@ -2,12 +2,8 @@
 use mathlib.Core.Path.{_≡_}
 use mathlib.Core.List.{List, [], _∷_}
 use Prim.Native.Nat.{_-_, _^_}
+use Rattle.element.specs.Every.{Every}
 use Rattle.narrow.specs.Narrow.{narrowed}
-
--- every fact of a list holds
-abbrev pub Every : List (Type 0) → Type 0
-Every [] = Unit {0}
-Every (A ∷ As) = A × Every As
 
 abbrev pub vectorPoints : List (Type 0)
 vectorPoints =

@@ -5,7 +5,8 @@ mod elements32;
 ghost use mathlib.Core.Path.{_≡_};
 ghost use lib.ListN.{length};
 ghost use Rattle.narrow.specs.Calls.{narrowReady, narrowFile};
-ghost use Rattle.narrow.specs.Points.{Every, vectorPoints};
+ghost use Rattle.element.specs.Every.{Every};
+ghost use Rattle.narrow.specs.Points.{vectorPoints};
 
 fn narrow_ready(z: usize, vl: u32, size: u32, shift: u32, zn: u32, zd: u32) -> bool
     ensures { λ r. ⌜ r ≡ narrowReady z vl size shift zn zd ⌝ }
