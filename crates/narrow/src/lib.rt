@@ -11,7 +11,7 @@ ghost use Rattle.narrow.specs.Points.{vectorPoints};
 fn narrow_ready(z: usize, vl: u32, size: u32, shift: u32, zn: u32, zd: u32) -> bool
     ensures { λ r. ⌜ r ≡ narrowReady z vl size shift zn zd ⌝ }
 {
-    let lengths = (z == 8192) & part::length_allowed(vl);
+    let lengths = (z == 8192) & setting::length_allowed(vl);
     let fields = ((size == 8) | (size == 16) | (size == 32)) & (0 < shift) & (shift <= size);
     lengths & fields & ((zn < 32) & (zd < 32))
 }

@@ -1,17 +1,9 @@
-// What the vector instructions share: which vector lengths are allowed, and an element's bytes as a number, low byte first, and back.
+// What the vector instructions share: an element's bytes as a number, low byte first, and back.
 ghost use mathlib.Core.Path.{_≡_};
 ghost use Prim.Native.Nat.{_+_, _*_, _<_};
 ghost use lib.ListN.{length};
-ghost use Rattle.setting.specs.Allowed.{lengthAllowed};
 ghost use Rattle.element.specs.Contents.{num, bytes};
 ghost use Rattle.part.specs.Parts.{Got, numberOf, storedOf};
-
-// Whether VL is one of the five.
-pub fn length_allowed(vl: u32) -> bool
-    ensures { λ r. ⌜ r ≡ lengthAllowed vl ⌝ }
-{
-    (vl == 128) | (vl == 256) | (vl == 512) | (vl == 1024) | (vl == 2048)
-}
 
 fn two(a: u8, b: u8) -> u64
     ensures { λ r. ⌜ (r ≡ a + 256 * b) × (r < 65536) ⌝ }
