@@ -10,6 +10,7 @@ use lib.ListN.{length, getD}
 use lib.Seq.{slice, take-all}
 use borrow.Author.Tests.{lt-ltb, le-leb, ltb-true, leb-true}
 use Rattle.setting.specs.Allowed.{lengthAllowed}
+use Rattle.element.specs.Size.{isSize}
 use Rattle.element.specs.Slots.{slot}
 use Rattle.order.specs.Touch.{gets, puts}
 use Rattle.encoding.specs.Instructions.{inRange, pextInRange, dupInRange, narrowInRange}
