@@ -3,4 +3,5 @@ pub mod Touched
 pub mod Gives
 pub mod Step
 pub mod Done
+pub mod Points
 pub mod Claims

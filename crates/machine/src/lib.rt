@@ -9,6 +9,7 @@ ghost use Rattle.machine.specs.Machine.{machine, advanced};
 ghost use lib.ListN.{length};
 ghost use Rattle.machine.specs.Step.{stepOf, steppedAs};
 ghost use Rattle.machine.specs.Done.{Ready, executedOf};
+ghost use Rattle.machine.specs.Claims.{Claims};
 use encoding::Decoded;
 use encoding::Instruction;
 use setting::Answer;
@@ -98,3 +99,8 @@ pub fn step(
         Decoded::Refused(answer) => Stepped { answer, scalars },
     }
 }
+
+// The theorems about these definitions. It does nothing: its promise has the check demand their proofs.
+pub fn claims()
+    ensures { λ r. ⌜ Claims ⌝ }
+{}
