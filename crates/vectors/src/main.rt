@@ -1,12 +1,9 @@
 // Answers the stored questions of the independent reference, one line each: document 01's number and the values.
 //
-// A question is numbers of eight hex digits. Nine of them: kind, VL, features and six values; kind 0 reads the word that is
-// the first value, kinds 1 to 6 write the form at that place of the table, its fields in the order of `Instruction`. Its
-// answer is eight numbers: document 01's number, then the form's place (from 1) and its fields, or the word and zeros.
-// Twenty of them, of kind 7, are a step: src/steps.rt.
-mod steps;
-
-ghost use Prim.Native.Nat.{_<_, _≤_};
+// A question is nine numbers of eight hex digits: kind, VL, features and six values. Kind 0 reads the word that is the
+// first value; kinds 1 to 6 write the form at that place of the table, its fields in the order of `Instruction`.
+// An answer is eight: the number, then the form's place (from 1) and its fields, or the word and zeros.
+ghost use Prim.Native.Nat.{_<_};
 use encoding::Decoded;
 use encoding::Instruction;
 use libc::STDIN_FILENO;
@@ -19,8 +16,8 @@ fn digit_of(b: u8) -> u32 {
 }
 
 // The number at a place of the line.
-pub(crate) fn number(line: &[u8; 180], place: usize) -> u32
-    requires { ⌜ place < 20 ⌝ }
+fn number(line: &[u8; 81], place: usize) -> u32
+    requires { ⌜ place < 9 ⌝ }
 {
     let mut value: u32 = 0;
     let mut i: usize = 0;
@@ -37,8 +34,8 @@ fn glyph(digit: u32) -> u8 {
 }
 
 // Writes a number at a place of the line, with the byte that follows it.
-fn put(line: &mut [u8; 126], place: usize, value: u32, after: u8)
-    requires { ⌜ place < 14 ⌝ }
+fn put(line: &mut [u8; 72], place: usize, value: u32, after: u8)
+    requires { ⌜ place < 8 ⌝ }
 {
     let mut rest = value;
     let mut i: usize = 8;
@@ -50,20 +47,20 @@ fn put(line: &mut [u8; 126], place: usize, value: u32, after: u8)
     line[place * 9 + 8] = after;
 }
 
-fn fields(instruction: Instruction) -> [u32; 14] {
+fn fields(instruction: Instruction) -> [u32; 8] {
     match instruction {
         Instruction::Pext1 {
             size,
             imm2,
             counter,
             pd,
-        } => [0, 1, size, imm2, counter, pd, 0, 0, 0, 0, 0, 0, 0, 0],
+        } => [0, 1, size, imm2, counter, pd, 0, 0],
         Instruction::Pext2 {
             size,
             i1,
             counter,
             pd,
-        } => [0, 2, size, i1, counter, pd, 0, 0, 0, 0, 0, 0, 0, 0],
+        } => [0, 2, size, i1, counter, pd, 0, 0],
         Instruction::Dup {
             size,
             offset,
@@ -71,32 +68,32 @@ fn fields(instruction: Instruction) -> [u32; 14] {
             pg,
             pn,
             pd,
-        } => [0, 3, size, offset, index, pg, pn, pd, 0, 0, 0, 0, 0, 0],
-        Instruction::Luti4c { size, i1, zn, zd } => [0, 4, size, i1, zn, zd, 0, 0, 0, 0, 0, 0, 0, 0],
-        Instruction::Luti4s { size, i1, zn, zd } => [0, 5, size, i1, zn, zd, 0, 0, 0, 0, 0, 0, 0, 0],
+        } => [0, 3, size, offset, index, pg, pn, pd],
+        Instruction::Luti4c { size, i1, zn, zd } => [0, 4, size, i1, zn, zd, 0, 0],
+        Instruction::Luti4s { size, i1, zn, zd } => [0, 5, size, i1, zn, zd, 0, 0],
         Instruction::Uqrshrnb {
             size,
             shift,
             zn,
             zd,
-        } => [0, 6, size, shift, zn, zd, 0, 0, 0, 0, 0, 0, 0, 0],
+        } => [0, 6, size, shift, zn, zd, 0, 0],
     }
 }
 
-fn read(setting: Setting, word: u32) -> [u32; 14] {
+fn read(setting: Setting, word: u32) -> [u32; 8] {
     match encoding::decode(setting, word) {
         Decoded::Fields(instruction) => fields(instruction),
-        Decoded::Refused(answer) => [setting::number(answer), 0, 0, 0, 0, 0, 0, 0, 0, 0, 0, 0, 0, 0],
+        Decoded::Refused(answer) => [setting::number(answer), 0, 0, 0, 0, 0, 0, 0],
     }
 }
 
-fn write(setting: Setting, instruction: Instruction) -> [u32; 14] {
+fn write(setting: Setting, instruction: Instruction) -> [u32; 8] {
     let e = encoding::encode(setting, instruction);
     let answer = e.answer;
-    [setting::number(answer), e.word, 0, 0, 0, 0, 0, 0, 0, 0, 0, 0, 0, 0]
+    [setting::number(answer), e.word, 0, 0, 0, 0, 0, 0]
 }
 
-fn answer(kind: u32, setting: Setting, a: u32, b: u32, c: u32, d: u32, e: u32, f: u32) -> [u32; 14] {
+fn answer(kind: u32, setting: Setting, a: u32, b: u32, c: u32, d: u32, e: u32, f: u32) -> [u32; 8] {
     match kind {
         1 => write(
             setting,
@@ -158,7 +155,7 @@ fn answer(kind: u32, setting: Setting, a: u32, b: u32, c: u32, d: u32, e: u32, f
     }
 }
 
-fn answer_line(line: &[u8; 180]) -> [u32; 14] {
+fn answer_line(line: &[u8; 81]) -> [u32; 8] {
     let setting = Setting {
         vl: number(line, 1),
         features: number(line, 2),
@@ -175,38 +172,28 @@ fn answer_line(line: &[u8; 180]) -> [u32; 14] {
     )
 }
 
-fn spell(values: [u32; 14]) -> [u8; 126] {
-    let mut text = [0u8; 126];
-    let mut place: usize = 0;
-    while place < 14 {
-        put(&mut text, place, values[place], b' ');
-        place += 1;
-    }
-    text
-}
-
-// Prints the first numbers of the line, 9 bytes each, with the line's end for the last space.
-fn print(line: [u8; 126], bytes: usize) -> bool
-    requires { ⌜ (0 < bytes) × (bytes ≤ 126) ⌝ }
-{
-    let mut text = line;
-    text[bytes - 1] = b'\n';
-    io::write_all(STDOUT_FILENO, &text[..bytes])
+// Takes the array, not a slice: its length is then known.
+fn print(line: &[u8; 72]) -> bool {
+    io::write_all(STDOUT_FILENO, line)
 }
 
 // One question and its answer; false where the input ends.
 fn answer_next() -> bool {
-    let mut question = [0u8; 180];
-    if io::read_full(STDIN_FILENO, &mut question[..81]) < 81 {
+    let mut question = [0u8; 81];
+    if io::read_full(STDIN_FILENO, &mut question) < 81 {
         return false;
     }
-    if number(&question, 0) != 7 {
-        return print(spell(answer_line(&question)), 72);
-    }
-    if io::read_full(STDIN_FILENO, &mut question[81..]) < 99 {
-        return false;
-    }
-    print(spell(steps::answer(&question)), 126)
+    let values = answer_line(&question);
+    let mut text = [0u8; 72];
+    put(&mut text, 0, values[0], b' ');
+    put(&mut text, 1, values[1], b' ');
+    put(&mut text, 2, values[2], b' ');
+    put(&mut text, 3, values[3], b' ');
+    put(&mut text, 4, values[4], b' ');
+    put(&mut text, 5, values[5], b' ');
+    put(&mut text, 6, values[6], b' ');
+    put(&mut text, 7, values[7], b'\n');
+    print(&text)
 }
 
 // The loop counts down from a number of questions that no input has, since a proved loop ends.
