@@ -6,7 +6,7 @@
 //! seen the proved library, so that the two can be compared. Nothing here is
 //! proved; it is meant to be plain enough to be read against the documents.
 //!
-//! This step holds decoding, encoding and the lister:
+//! Reading and writing words:
 //!
 //! - [`setting`]: which vector lengths and feature numbers are allowed
 //! - [`refusal`]: the numbers the bench answers with
@@ -15,33 +15,62 @@
 //! - [`decode`], [`encode`]: word to instruction and back
 //! - [`lister`]: four bytes in, one line of text out
 //!
+//! Executing them, meaning first, bit by bit:
+//!
+//! - [`machine`]: the lent files and scalars
+//! - [`bits`]: registers as rows of bits
+//! - [`counter`]: the predicate-as-counter and its expansion
+//! - [`operations`]: what the words compute
+//! - [`access`]: which access flags a word needs
+//! - [`step`], [`run`](mod@run): one word, and a stretch of them
+//! - [`touch`](mod@touch): what a word reads and writes, and which words conflict
+//! - [`rearrangement`]: which rearrangements of a stretch are permitted
+//!
 //! and what is needed to compare:
 //!
-//! - [`question`]: one question and its answer
-//! - [`text`]: both as lines of fixed width
-//! - [`questions`]: the list of questions put to both programs
-//! - [`samples`], [`random`]: seeded words and fields
-//!
-//! Execution will come as modules of its own beside these.
+//! - [`question`], [`step_question`]: one question and its answer
+//! - [`expand`](mod@expand): how a machine is made from a few numbers
+//! - [`text`]: questions and answers as lines of fixed width
+//! - [`questions`], [`step_questions`], [`conflict_questions`]: the lists of
+//!   questions put to both programs
+//! - [`samples`], [`stretches`], [`values`], [`random`]: seeded words, fields,
+//!   machines and stretches
 //!
 //! The binary `reference` gives all of this on the command line:
 //!
 //! ```text
-//! reference list                       words on stdin, lines on stdout
-//! reference questions [SEED]           prints questions
-//! reference answers                    questions on stdin, answers on stdout
-//! reference listing-words SEED COUNT   prints raw words for the lister
+//! reference list                        words on stdin, lines on stdout
+//! reference questions [SEED]            prints questions of kinds 0 to 6
+//! reference step-questions [SEED]       prints questions of kind 7
+//! reference conflict-questions [SEED]   prints questions of kind 8
+//! reference answers                     questions on stdin, answers on stdout
+//! reference listing-words SEED COUNT    prints raw words for the lister
 //! ```
 
+pub mod access;
+pub mod bits;
+pub mod conflict_questions;
+pub mod counter;
 pub mod decode;
 pub mod encode;
+pub mod expand;
 pub mod instruction;
 pub mod layout;
 pub mod lister;
+pub mod machine;
+pub mod operations;
 pub mod question;
 pub mod questions;
 pub mod random;
+pub mod rearrangement;
 pub mod refusal;
+pub mod run;
 pub mod samples;
 pub mod setting;
+pub mod step;
+pub mod step_question;
+pub mod step_questions;
+pub mod stretches;
 pub mod text;
+pub mod touch;
+pub mod values;

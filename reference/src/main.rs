@@ -3,12 +3,18 @@
 use std::io::{self, BufReader, BufWriter, Read, Write};
 use std::process::ExitCode;
 
+use reference::conflict_questions;
 use reference::lister::list_stream;
 use reference::questions::{self, DEFAULT_SEED};
 use reference::samples::listing_words;
-use reference::text::{QUESTION_BYTES, answer_line, question_line, read_question};
+use reference::step_questions;
+use reference::text::{
+    KIND_BYTES, answer_line, question_bytes, question_line, read_question, read_step_question,
+    step_answer_line, step_question_line,
+};
 
-const USAGE: &str = "usage: reference list | questions [SEED] | answers | listing-words SEED COUNT";
+const USAGE: &str = "usage: reference list | questions [SEED] | step-questions [SEED] \
+                     | conflict-questions [SEED] | answers | listing-words SEED COUNT";
 
 enum Failure {
     /// Called in a wrong way.
@@ -54,10 +60,10 @@ fn run(arguments: &[String], output: &mut impl Write) -> Result<(), Failure> {
     let arguments: Vec<&str> = arguments.iter().map(String::as_str).collect();
     match arguments[..] {
         ["list"] => Ok(list_stream(&mut io::stdin().lock(), output)?),
-        ["questions"] => print_questions(DEFAULT_SEED, output),
-        ["questions", seed] => print_questions(number(seed)?, output),
         ["answers"] => print_answers(&mut BufReader::new(io::stdin().lock()), output),
         ["listing-words", seed, count] => print_words(number(seed)?, number(count)?, output),
+        [kind] => print_questions(kind, DEFAULT_SEED, output),
+        [kind, seed] if is_question_kind(kind) => print_questions(kind, number(seed)?, output),
         _ => Err(Failure::Use(USAGE.to_string())),
     }
 }
@@ -67,9 +73,28 @@ fn number(text: &str) -> Result<u64, Failure> {
         .map_err(|_| Failure::Use(format!("{text:?} is not a number from 0 to 2^64 - 1")))
 }
 
-fn print_questions(seed: u64, output: &mut impl Write) -> Result<(), Failure> {
-    for question in questions::generate(seed) {
-        output.write_all(question_line(&question).as_bytes())?;
+fn is_question_kind(kind: &str) -> bool {
+    ["questions", "step-questions", "conflict-questions"].contains(&kind)
+}
+
+fn print_questions(kind: &str, seed: u64, output: &mut impl Write) -> Result<(), Failure> {
+    let lines: Vec<String> = match kind {
+        "questions" => questions::generate(seed)
+            .iter()
+            .map(question_line)
+            .collect(),
+        "conflict-questions" => conflict_questions::generate(seed)
+            .iter()
+            .map(question_line)
+            .collect(),
+        "step-questions" => step_questions::generate(seed)
+            .iter()
+            .map(step_question_line)
+            .collect(),
+        _ => return Err(Failure::Use(USAGE.to_string())),
+    };
+    for line in lines {
+        output.write_all(line.as_bytes())?;
     }
     Ok(())
 }
@@ -78,30 +103,55 @@ fn print_answers(input: &mut impl Read, output: &mut impl Write) -> Result<(), F
     let mut count = 0u64;
     while let Some(line) = next_line(input, count + 1)? {
         count += 1;
-        let question = read_question(&line)
+        let answer = answer_to(&line)
             .map_err(|problem| Failure::Input(format!("question {count}: {problem}")))?;
-        output.write_all(answer_line(&question.answer()).as_bytes())?;
+        output.write_all(answer.as_bytes())?;
     }
     Ok(())
 }
 
-/// The next question's bytes, all lines being of one length.
-fn next_line(input: &mut impl Read, place: u64) -> Result<Option<[u8; QUESTION_BYTES]>, Failure> {
-    let mut line = [0u8; QUESTION_BYTES];
-    let mut held = 0;
-    while held < QUESTION_BYTES {
-        match input.read(&mut line[held..]) {
-            Ok(0) if held == 0 => return Ok(None),
-            Ok(0) => {
-                let problem = format!("question {place}: the input ends inside it");
-                return Err(Failure::Input(problem));
-            }
-            Ok(got) => held += got,
-            Err(error) if error.kind() == io::ErrorKind::Interrupted => {}
-            Err(error) => return Err(error.into()),
-        }
+/// The answer's line for a question's line, whose length tells the two
+/// formats apart.
+fn answer_to(line: &[u8]) -> Result<String, String> {
+    if let Ok(line) = line.try_into() {
+        read_question(line).map(|question| answer_line(&question.answer()))
+    } else if let Ok(line) = line.try_into() {
+        read_step_question(line).map(|question| step_answer_line(&question.answer()))
+    } else {
+        Err("not a question".to_string())
+    }
+}
+
+/// The next question's bytes; its kind says how many they are.
+fn next_line(input: &mut impl Read, place: u64) -> Result<Option<Vec<u8>>, Failure> {
+    let cut = || Failure::Input(format!("question {place}: the input ends inside it"));
+    let mut kind = [0u8; KIND_BYTES];
+    match fill(input, &mut kind)? {
+        0 => return Ok(None),
+        KIND_BYTES => {}
+        _ => return Err(cut()),
+    }
+    let mut line = kind.to_vec();
+    line.resize(question_bytes(&kind), 0);
+    let rest = &mut line[KIND_BYTES..];
+    if fill(input, rest)? < rest.len() {
+        return Err(cut());
     }
     Ok(Some(line))
+}
+
+/// Reads until the buffer is full or the input ends, and says how much.
+fn fill(input: &mut impl Read, buffer: &mut [u8]) -> io::Result<usize> {
+    let mut held = 0;
+    while held < buffer.len() {
+        match input.read(&mut buffer[held..]) {
+            Ok(0) => break,
+            Ok(got) => held += got,
+            Err(error) if error.kind() == io::ErrorKind::Interrupted => {}
+            Err(error) => return Err(error),
+        }
+    }
+    Ok(held)
 }
 
 fn print_words(seed: u64, count: u64, output: &mut impl Write) -> Result<(), Failure> {

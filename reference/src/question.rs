@@ -1,10 +1,12 @@
-//! One question put to both programs, and the answer of this one.
+//! One question put to both programs, and the answer of this one. Questions
+//! about a step have a page of their own, `step_question`.
 
 use crate::decode::decode;
 use crate::encode::encode;
 use crate::instruction::{Form, Instruction};
 use crate::refusal::DONE;
 use crate::setting::Setting;
+use crate::touch::conflict;
 
 #[derive(Clone, Copy, Debug, PartialEq, Eq, Hash)]
 pub enum Question {
@@ -18,16 +20,25 @@ pub enum Question {
         /// In the form's order, unused places 0.
         fields: [u32; 6],
     },
+    /// Whether two words conflict.
+    Conflict {
+        setting: Setting,
+        first: u32,
+        second: u32,
+    },
 }
 
 /// For decode: number, form (0 when refused), six fields (0 when refused).
 /// For encode: number, word (0 when refused), six zeros.
+/// For conflict: number, 1 for yes or 0 for no (0 when refused), six zeros.
 pub type Answer = [u32; 8];
 
 impl Question {
     pub fn setting(&self) -> Setting {
         match *self {
-            Question::Decode { setting, .. } | Question::Encode { setting, .. } => setting,
+            Question::Decode { setting, .. }
+            | Question::Encode { setting, .. }
+            | Question::Conflict { setting, .. } => setting,
         }
     }
 
@@ -46,6 +57,14 @@ impl Question {
                 fields,
             } => match encode(setting, Instruction::from_fields(form, fields)) {
                 Ok(word) => [DONE, word, 0, 0, 0, 0, 0, 0],
+                Err(refusal) => [refusal.number(), 0, 0, 0, 0, 0, 0, 0],
+            },
+            Question::Conflict {
+                setting,
+                first,
+                second,
+            } => match conflict(setting, first, second) {
+                Ok(conflicting) => [DONE, u32::from(conflicting), 0, 0, 0, 0, 0, 0],
                 Err(refusal) => [refusal.number(), 0, 0, 0, 0, 0, 0, 0],
             },
         }

@@ -1,4 +1,5 @@
-//! The list of questions put to both programs.
+//! The list of questions about reading and writing words put to both programs
+//! (kinds 0 to 6).
 //!
 //! What must be asked is asked by construction, one function for each kind of
 //! case; the seed only fills in what may be anything. A question that comes up
@@ -11,140 +12,10 @@ use crate::question::Question;
 use crate::random::Random;
 use crate::samples;
 use crate::setting::{ALL_FEATURES, FULL, Setting, VECTOR_LENGTHS, features_are_allowed};
+use crate::values::FIELD_VALUES;
+pub use crate::values::{FEATURES_ABOVE, LENGTHS_NOT_ALLOWED, PRINTED_WORDS};
 
 pub const DEFAULT_SEED: u64 = 1;
-
-/// Feature numbers above 31. 287 is 256 + 31 and 65567 is 65536 + 31: a
-/// narrowing cast would let them in.
-pub const FEATURES_ABOVE: [u32; 16] = [
-    32,
-    33,
-    36,
-    63,
-    64,
-    128,
-    255,
-    256,
-    287,
-    65535,
-    65536,
-    65567,
-    1 << 24,
-    1 << 31,
-    (1 << 31) + 31,
-    u32::MAX,
-];
-
-/// Vector lengths that are not allowed, some of them allowed ones after a
-/// narrowing cast.
-pub const LENGTHS_NOT_ALLOWED: [u32; 20] = [
-    0,
-    1,
-    64,
-    127,
-    129,
-    192,
-    255,
-    384,
-    640,
-    2047,
-    2049,
-    4096,
-    65535,
-    65536,
-    65536 + 128,
-    65536 + 2048,
-    (1 << 24) + 256,
-    1 << 31,
-    (1 << 31) + 128,
-    u32::MAX,
-];
-
-/// The words printed in document 01: the points on the board and the lister's
-/// example.
-pub const PRINTED_WORDS: [u32; 16] = [
-    0xc08a_9000,
-    0xc08a_8000,
-    0xc08a_b000,
-    0xc09a_9000,
-    0xc09a_a000,
-    0x4528_3800,
-    0x452f_3800,
-    0x4560_3800,
-    0x457f_3800,
-    0x4520_3800,
-    0x252c_4000,
-    0x25e0_4000,
-    0x2520_741f,
-    0xc08b_9000,
-    0x2520_7010,
-    0x2520_4000,
-];
-
-/// Put into every field in turn. The first lines hold, for every field of
-/// every form, both ends of its range and the numbers next to them; then come
-/// numbers that are in a range after a cast to 8 or 16 bits, and extremes.
-const FIELD_VALUES: [u32; 59] = [
-    0,
-    1,
-    2,
-    3,
-    4,
-    5,
-    7,
-    8,
-    9,
-    11,
-    12,
-    13,
-    15,
-    16,
-    17,
-    18,
-    19,
-    20,
-    24,
-    27,
-    28,
-    29,
-    30,
-    31,
-    32,
-    33,
-    63,
-    64,
-    65,
-    127,
-    128,
-    255,
-    256,
-    256 + 1,
-    256 + 8,
-    256 + 12,
-    256 + 15,
-    256 + 16,
-    256 + 32,
-    256 + 64,
-    65535,
-    65536,
-    65536 + 1,
-    65536 + 8,
-    65536 + 12,
-    65536 + 16,
-    65536 + 32,
-    65536 + 64,
-    (1 << 24) + 8,
-    (1 << 31) - 1,
-    1 << 31,
-    (1 << 31) + 1,
-    (1 << 31) + 8,
-    (1 << 31) + 12,
-    (1 << 31) + 16,
-    u32::MAX - 15,
-    u32::MAX - 7,
-    u32::MAX - 3,
-    u32::MAX,
-];
 
 pub fn generate(seed: u64) -> Vec<Question> {
     let mut list = List {

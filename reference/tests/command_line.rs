@@ -3,10 +3,15 @@
 use std::io::{Read, Write};
 use std::process::{Child, Command, Output, Stdio};
 
+use reference::conflict_questions;
 use reference::lister::list;
 use reference::questions::generate;
 use reference::samples::listing_words;
-use reference::text::{ANSWER_BYTES, QUESTION_BYTES, answer_line};
+use reference::step_questions;
+use reference::text::{
+    ANSWER_BYTES, QUESTION_BYTES, STEP_ANSWER_BYTES, STEP_QUESTION_BYTES, answer_line,
+    step_answer_line,
+};
 
 fn start(arguments: &[&str]) -> Child {
     Command::new(env!("CARGO_BIN_EXE_reference"))
@@ -45,6 +50,66 @@ fn questions_and_answers() {
         .collect();
     assert_eq!(answers.stdout.len(), generate(5).len() * ANSWER_BYTES);
     assert_eq!(answers.stdout, expected.as_bytes());
+}
+
+/// All kinds in one input: each line is answered as its kind asks.
+#[test]
+fn steps_and_conflicts() {
+    let steps = run(&["step-questions", "5"], b"").stdout;
+    let conflicts = run(&["conflict-questions", "5"], b"").stdout;
+    let others = run(&["questions", "5"], b"").stdout;
+    assert_eq!(
+        steps.len(),
+        step_questions::generate(5).len() * STEP_QUESTION_BYTES
+    );
+    assert_eq!(
+        conflicts.len(),
+        conflict_questions::generate(5).len() * QUESTION_BYTES
+    );
+    let expected_steps: String = step_questions::generate(5)
+        .iter()
+        .map(|question| step_answer_line(&question.answer()))
+        .collect();
+    let expected_conflicts: String = conflict_questions::generate(5)
+        .iter()
+        .map(|question| answer_line(&question.answer()))
+        .collect();
+    let expected_others: String = generate(5)
+        .iter()
+        .map(|question| answer_line(&question.answer()))
+        .collect();
+    let answers = run(&["answers"], &[steps, others, conflicts].concat());
+    assert!(answers.status.success());
+    let expected = expected_steps + &expected_others + &expected_conflicts;
+    assert_eq!(answers.stdout, expected.as_bytes());
+}
+
+/// A step whose files are all empty leaves three hashes of nothing, and is
+/// refused with 2; one with a closed flag leaves PC alone.
+#[test]
+fn a_step_to_the_letter() {
+    let question = "00000007 00000080 0000001f 25207010 00000005 00000001 00000002 00000003 \
+                    00000004 ffffffff fffffffc 00000000 00000000 00000000 00000000 00000000 \
+                    ffffffff 00000000 ffffffff 00000000\n";
+    let nothing = "cbf29ce4 84222325";
+    let expected = format!(
+        "00000002 00000001 00000002 00000003 00000004 ffffffff fffffffc 00000005 \
+         {nothing} {nothing} {nothing}\n"
+    );
+    assert_eq!(question.len(), STEP_QUESTION_BYTES);
+    assert_eq!(expected.len(), STEP_ANSWER_BYTES);
+    let answers = run(&["answers"], question.as_bytes());
+    assert_eq!(String::from_utf8(answers.stdout).unwrap(), expected);
+    // With files of the right lengths it is done, and PC wraps.
+    let lengths = "00002000 00000200 00000040";
+    let question = question.replace(
+        "00000000 00000000 00000000 ffffffff",
+        &format!("{lengths} ffffffff"),
+    );
+    let answers = run(&["answers"], question.as_bytes());
+    let answer = String::from_utf8(answers.stdout).unwrap();
+    let start = "00000000 00000001 00000002 00000003 00000004 00000000 00000000 00000005 ";
+    assert!(answer.starts_with(start), "{answer}");
 }
 
 /// Two lines written out by hand.
@@ -89,13 +154,17 @@ fn list_and_listing_words() {
 
 #[test]
 fn wrong_use_is_one_line_and_a_status() {
-    let wrong: [&[&str]; 9] = [
+    let wrong: [&[&str]; 13] = [
         &[],
         &["lst"],
         &["list", "more"],
         &["questions", "x"],
         &["questions", "1", "2"],
         &["questions", "-1"],
+        &["step-questions", "x"],
+        &["step-questions", "1", "2"],
+        &["conflict-questions", "x"],
+        &["conflict-question"],
         &["listing-words", "1"],
         &["listing-words", "1", "18446744073709551616"],
         &["answers", "file"],
@@ -124,11 +193,23 @@ fn spoilt_questions_are_named() {
         assert!(line.contains(place), "{line}");
         assert_eq!(line.matches('\n').count(), 1);
     }
+    // A step cut where another question would be whole.
+    let step = run(&["step-questions"], b"").stdout;
+    let output = run(&["answers"], &step[..STEP_QUESTION_BYTES + QUESTION_BYTES]);
+    assert!(!output.status.success());
+    assert_eq!(output.stdout.len(), STEP_ANSWER_BYTES);
+    let line = String::from_utf8(output.stderr).unwrap();
+    assert!(line.contains("question 2:"), "{line}");
 }
 
 #[test]
 fn a_reader_that_goes_away_causes_no_panic() {
-    let endless: [&[&str]; 2] = [&["listing-words", "1", "100000000"], &["questions"]];
+    let endless: [&[&str]; 4] = [
+        &["listing-words", "1", "100000000"],
+        &["questions"],
+        &["step-questions"],
+        &["conflict-questions"],
+    ];
     for arguments in endless {
         let mut child = start(arguments);
         let mut first = [0u8; 16];

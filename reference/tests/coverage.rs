@@ -18,7 +18,7 @@ fn decodes(questions: &[Question]) -> Vec<(Setting, u32)> {
         .iter()
         .filter_map(|question| match *question {
             Question::Decode { setting, word } => Some((setting, word)),
-            Question::Encode { .. } => None,
+            _ => None,
         })
         .collect()
 }
@@ -27,12 +27,12 @@ fn encodes(questions: &[Question]) -> Vec<(Setting, Form, [u32; 6])> {
     questions
         .iter()
         .filter_map(|question| match *question {
-            Question::Decode { .. } => None,
             Question::Encode {
                 setting,
                 form,
                 fields,
             } => Some((setting, form, fields)),
+            _ => None,
         })
         .collect()
 }

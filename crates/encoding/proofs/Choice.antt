@@ -124,3 +124,10 @@ accepted-by C f w (r ∷ rs) p i e =
     decide (rowMatches r f w)
     (λ m. let a = simp m at e in let b : r .reading (fieldsOf (r .layout) w) ≡ i = cc in rw (sym b) (p .0 m))
     (λ m. accepted-by C f w rs (p .1) i (simp m at e))
+
+pub first-three : (rs : List Row) (f w n : ℕ) → firstOf rs f w ≡ refuse n → n ≡ 3
+first-three [] f w n e = cc
+first-three (r ∷ rs) f w n e =
+    decide (rowMatches r f w)
+    (λ m. let a = simp m at e in let z : _≡_ {A = ℕ} 0 1 = cc in absurd (omega arith))
+    (λ m. first-three rs f w n (simp m at e))

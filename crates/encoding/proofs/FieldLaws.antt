@@ -7,10 +7,10 @@ use native.Mathlib.Omega.{arith}
 use lib.Dec.{T, eqb, ltb, leb, lit<, lit≤, ltb→lt, eqb→eq}
 use lib.Count.{trailingZeros}
 use borrow.Author.Tests.{eq-eqb, eqb-true, ltb-true, leb-true, lt-ltb, le-ltb, le-leb, not-true}
-use Rattle.element.specs.Size.{sizeOf}
+use Rattle.element.specs.Size.{sizeOf, isSize}
 use Rattle.element.proofs.Below.{both, below}
 use Rattle.encoding.specs.Layout.{fieldsOf}
-use Rattle.encoding.specs.Instructions.{isP, isZ, isSize, pextInRange, dupInRange, lutiInRange, narrowInRange, inRange, rawSize, rawPext, dupOffset, rawDupBits, narrowSize, rawOf}
+use Rattle.encoding.specs.Instructions.{isP, isZ, pextInRange, dupInRange, lutiInRange, narrowInRange, inRange, rawSize, rawPext, dupOffset, rawDupBits, narrowSize, rawOf}
 use Rattle.encoding.specs.Rows.{Row, rowOf, pext1, pext2, dup, luti4c, luti4s, uqrshrnb}
 use Rattle.encoding.specs.declared.Instruction.{Instruction}
 use Rattle.encoding.specs.declared.Instruction.the-variants.{Pext1, Pext2, Dup, Luti4c, Luti4s, Uqrshrnb}
@@ -41,7 +41,7 @@ pub record Writes (i : Instruction) (xs : List ℕ) : Type 0 where
   pub back : rawOf i ≡ xs
 
 -- ---- element sizes
-size-cases : (P : ℕ → Type 0) → P 8 → P 16 → P 32 → P 64 → (n : ℕ) → isSize n ≡ true → P n
+pub size-cases : (P : ℕ → Type 0) → P 8 → P 16 → P 32 → P 64 → (n : ℕ) → isSize n ≡ true → P n
 size-cases P a b c d n =
     decide (eqb n 8) (λ e _. rw (eqb-true n 8 e) a)
     (λ e. decide (eqb n 16) (λ e′ _. rw (eqb-true n 16 e′) b)

@@ -7,7 +7,7 @@ use native.Mathlib.Omega.{arith}
 use lib.Dec.{T}
 use borrow.Author.Tests.{eqb-true}
 use Rattle.setting.specs.Allowed.{allowedOf}
-use Rattle.setting.specs.Numbers.{accept}
+use Rattle.setting.specs.Numbers.{accept, refuse}
 use Rattle.setting.specs.declared.Setting.{Setting}
 use Rattle.encoding.specs.Layout.{fieldsOf, wordOf, matches}
 use Rattle.encoding.specs.Instructions.{inRange, rawOf}
@@ -20,7 +20,7 @@ use Rattle.encoding.specs.declared.Instruction.{Instruction}
 use Rattle.encoding.specs.declared.Instruction.the-variants.{Pext1, Pext2, Dup, Luti4c, Luti4s, Uqrshrnb}
 use Rattle.encoding.proofs.LayoutLaws.{fields-back, word-matches}
 use Rattle.encoding.proofs.Apart.{decide}
-use Rattle.encoding.proofs.Choice.{disjoint, matchesAt, readAt, none-first, first-is-read, place-is, at-most-one, refused-none, accepted-by}
+use Rattle.encoding.proofs.Choice.{disjoint, matchesAt, readAt, none-first, first-is-read, place-is, at-most-one, refused-none, accepted-by, first-three}
 use Rattle.encoding.proofs.FieldLaws.{and-true, in-range-reads, RowWrites, pext1-writes, pext2-writes, dup-row-writes, luti4c-row-writes, luti4s-row-writes, uqrshrnb-row-writes}
 
 -- the six layouts are sound and pairwise apart: computed
@@ -107,3 +107,17 @@ encode-decode s i w e =
     )
     i (simp a at e))
     (λ a. let c = simp a at e in let z : _≡_ {A = ℕ} 0 1 = cc in absurd (omega arith))
+
+-- ---- what the machine asks of reading
+-- fields that are read are in range, since they are written back
+pub read-in-range : (s : Setting) (i : Instruction) (w : ℕ) → decodeOf s w ≡ accept i → inRange i ≡ true
+unfolding encodeOf
+read-in-range s i w e =
+    let back = encode-decode s i w e in
+    decide (inRange i) (λ g. g)
+    (λ g. decide (allowedOf s) (λ a. not-zero w (simp (a, g) at back)) (λ a. not-zero w (simp a at back)))
+
+-- under an allowed setting a refusal is 3
+pub refused-three : (s : Setting) (w n : ℕ) → allowedOf s ≡ true → decodeOf s w ≡ refuse n → n ≡ 3
+unfolding decodeOf
+refused-three s w n a e = first-three rows (s .features) w n (simp a at e)

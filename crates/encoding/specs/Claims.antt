@@ -11,7 +11,8 @@ use Rattle.encoding.specs.Layout.{matches}
 use Rattle.encoding.specs.Rows.{Row, rows, rowMatches}
 use Rattle.encoding.specs.Decode.{decodeOf}
 use Rattle.encoding.specs.Encode.{written, encodeOf}
-use Rattle.encoding.specs.Points.{Every, readingPoints}
+use Rattle.element.specs.Every.{Every}
+use Rattle.encoding.specs.Points.{readingPoints}
 use Rattle.encoding.specs.declared.Instruction.{Instruction}
 
 -- no row of the list passes the test

@@ -4,7 +4,7 @@ use mathlib.Core.List.{List, [], _∷_}
 use Prim.Native.Nat.{ℕ, _+_, _-_, _*_, _%_, _/_, _^_}
 use lib.Dec.{eqb, ltb, leb}
 use lib.ListN.{getD}
-use Rattle.element.specs.Size.{pick, sizeOf}
+use Rattle.element.specs.Size.{pick, sizeOf, isSize}
 use Rattle.encoding.specs.declared.Instruction.{Instruction}
 use Rattle.encoding.specs.declared.Instruction.the-variants.{Pext1, Pext2, Dup, Luti4c, Luti4s, Uqrshrnb}
 
@@ -58,9 +58,6 @@ isP n = ltb n 16
 
 abbrev pub isZ : ℕ → Bool
 isZ n = ltb n 32
-
-abbrev pub isSize : ℕ → Bool
-isSize n = eqb n 8 || eqb n 16 || eqb n 32 || eqb n 64
 
 abbrev pub pextInRange : ℕ → ℕ → ℕ → ℕ → ℕ → Bool
 pextInRange bound size portion counter pd = isSize size && ltb portion bound && (leb 8 counter && ltb counter 16) && isP pd

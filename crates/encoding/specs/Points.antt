@@ -2,17 +2,13 @@
 use mathlib.Core.Path.{_≡_}
 use mathlib.Core.Bool.{true, false}
 use mathlib.Core.List.{List, [], _∷_}
+use Rattle.element.specs.Every.{Every}
 use Rattle.setting.specs.Allowed.{hasFeature, allowedOf}
 use Rattle.setting.specs.Numbers.{accept, refuse}
 use Rattle.setting.specs.declared.Feature.the-variants.{Sme2p1}
 use Rattle.setting.specs.declared.Setting.{Setting}
 use Rattle.encoding.specs.Decode.{decodeOf}
 use Rattle.encoding.specs.declared.Instruction.the-variants.{Dup, Luti4c, Luti4s, Uqrshrnb}
-
--- every fact of a list holds
-abbrev pub Every : List (Type 0) → Type 0
-Every [] = Unit {0}
-Every (A ∷ As) = A × Every As
 
 -- VL 128, all features on
 abbrev pub board : Setting

@@ -3,26 +3,21 @@ ghost use mathlib.Core.Path.{_≡_};
 ghost use mathlib.Core.Bool.{_&&_};
 ghost use Prim.Native.Nat.{_/_};
 ghost use lib.Dec.{ltb};
-ghost use Rattle.encoding.specs.Instructions.{isSize, inRange, pextInRange, dupInRange, lutiInRange, narrowInRange};
+ghost use Rattle.element.specs.Size.{isSize};
+ghost use Rattle.encoding.specs.Instructions.{inRange, pextInRange, dupInRange, lutiInRange, narrowInRange};
 use crate::Instruction;
-
-fn is_size(size: u32) -> bool
-    ensures { λ r. ⌜ r ≡ isSize size ⌝ }
-{
-    (size == 8) | (size == 16) | (size == 32) | (size == 64)
-}
 
 fn pext(bound: u32, size: u32, portion: u32, counter: u32, pd: u32) -> bool
     ensures { λ r. ⌜ r ≡ pextInRange bound size portion counter pd ⌝ }
 {
-    is_size(size) & (portion < bound) & ((8 <= counter) & (counter < 16)) & (pd < 16)
+    element::is_size(size) & (portion < bound) & ((8 <= counter) & (counter < 16)) & (pd < 16)
 }
 
 // Whether the size is one and the offset below 128 divided by it. A size of 0 divides nothing.
 fn dup_offset(size: u32, offset: u32) -> bool
     ensures { λ r. ⌜ r ≡ (isSize size && ltb offset (128 / size)) ⌝ }
 {
-    if !is_size(size) {
+    if !element::is_size(size) {
         return false;
     }
     offset < 128 / size

@@ -1,7 +1,7 @@
 // The setting that a word is read, written or executed under, and the answers with document 01's numbers.
 ghost use mathlib.Core.Path.{_≡_};
 ghost use Prim.Native.Nat.{_<_};
-ghost use Rattle.setting.specs.Allowed.{bitOf, hasFeature, allowedOf};
+ghost use Rattle.setting.specs.Allowed.{bitOf, hasFeature, lengthAllowed, allowedOf};
 ghost use Rattle.setting.specs.Numbers.{numberOf};
 
 // VL in bits, and the feature number: a bit for each feature.
@@ -52,6 +52,13 @@ pub fn has_feature(features: u32, feature: Feature) -> bool
     (features >> bit(feature)) % 2 == 1
 }
 
+// Whether VL is one of the five.
+pub fn length_allowed(vl: u32) -> bool
+    ensures { λ r. ⌜ r ≡ lengthAllowed vl ⌝ }
+{
+    (vl == 128) | (vl == 256) | (vl == 512) | (vl == 1024) | (vl == 2048)
+}
+
 // Whether VL is one of the five and the feature number is below 32 with every dependency.
 pub fn allowed(setting: Setting) -> bool
     ensures { λ r. ⌜ r ≡ allowedOf setting ⌝ }
@@ -63,8 +70,7 @@ pub fn allowed(setting: Setting) -> bool
     let sme = has_feature(f, Feature::Sme);
     let sme2 = has_feature(f, Feature::Sme2);
     let sme2p1 = has_feature(f, Feature::Sme2p1);
-    let length = (vl == 128) | (vl == 256) | (vl == 512) | (vl == 1024) | (vl == 2048);
-    length & ((f < 32) & (!sve2p1 | sve2) & (!sme2 | sme) & (!sme2p1 | sme2))
+    length_allowed(vl) & ((f < 32) & (!sve2p1 | sve2) & (!sme2 | sme) & (!sme2p1 | sme2))
 }
 
 // Document 01's number of an answer.

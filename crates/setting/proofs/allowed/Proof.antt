@@ -1,10 +1,8 @@
+-- `allowed` meets its contract: its tests are the definition's, with the calls' answers for the features and the length.
 use Rattle.setting.specs.Allowed.{allowedOf}
 use borrow.Author.Needs.{needs}
 use Rattle.setting.proofs.allowed.Statement.{statement}
 use Rattle.setting.proofs.allowed.Tie as tie
-use Rattle.setting.proofs.allowed.Reads as reads
-use Rattle.setting.proofs.allowed.Lts as lts
-use Rattle.setting.proofs.has_feature.Reads as has-feature-reads
 
 has-feature-requires : tie.Need-has-feature-requires
 has-feature-requires c κs = search needs
@@ -21,9 +19,12 @@ has-feature-requires-4 c κs = search needs
 has-feature-requires-5 : tie.Need-has-feature-requires-5
 has-feature-requires-5 c κs = search needs
 
+length-allowed-requires : tie.Need-length-allowed-requires
+length-allowed-requires c κs = search needs
+
 returns : tie.Need-returns
 unfolding allowedOf
-returns c = rw (c .has-feature5 .ensures, c .before .has-feature4 .ensures, c .before .before .has-feature3 .ensures, c .before .before .before .has-feature2 .ensures, c .before .before .before .before .has-feature .ensures)
+returns c = rw (c .length-allowed .ensures, c .before .has-feature5 .ensures, c .before .before .has-feature4 .ensures, c .before .before .before .has-feature3 .ensures, c .before .before .before .before .has-feature2 .ensures, c .before .before .before .before .before .has-feature .ensures)
 
 pub allowed-spec : {M : Type 1} → statement M
 allowed-spec =
@@ -34,4 +35,5 @@ allowed-spec =
     has-feature-requires-3
     has-feature-requires-4
     has-feature-requires-5
+    length-allowed-requires
     returns)

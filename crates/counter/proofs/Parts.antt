@@ -1,0 +1,83 @@
+-- The whole expansion and a portion are strips of it; a strip with zeros behind it is the mask.
+use mathlib.Core.Path.{_≡_, refl, sym, ap, _∙_}
+use mathlib.Core.Bool.{Bool, true, false, _&&_}
+use mathlib.Core.List.{List, _++_}
+use Prim.Native.Nat.{ℕ, _+_, _-_, _*_, _/_, _%_, _^_, _≤_, _<_}
+use native.Mathlib.Nat.{add-mul, mul-assoc, mul-left-comm, mul-le-mul}
+use native.Mathlib.Omega.{arith}
+use lib.Dec.{eqb, ltb}
+use lib.ListN.{length, drop, replicate, length-replicate, replicate-append-replicate}
+use lib.Seq.{drop-at}
+use borrow.Author.Tests.{eq-eqb, eqb-true, ltb-true}
+use Rattle.setting.specs.Allowed.{lengthAllowed}
+use Rattle.element.specs.Size.{isSize}
+use Rattle.element.specs.Contents.{row}
+use Rattle.element.specs.Units.{Log, logOf}
+use Rattle.element.proofs.Tests.{both-yes}
+use Rattle.element.proofs.Units.{unit, whole, back, unit-of, elements, log-is, size-is}
+use Rattle.element.proofs.Filling.{row-same, row-length}
+use Rattle.counter.specs.Counter.{expansionBit, expansionOf, padded}
+use Rattle.counter.specs.Portion.{portionBit, portionOf, extractable}
+use Rattle.counter.specs.Strips.{stripBit, Length}
+use Rattle.counter.proofs.Lengths.{length-is}
+
+pub expansion-strip : (vl c : ℕ) → row (stripBit vl c 0 0) (vl / 16) ≡ expansionOf vl c
+unfolding expansionOf stripBit
+expansion-strip vl c =
+    row-same (stripBit vl c 0 0) (expansionBit vl c) (vl / 16)
+    (λ b. let e : b % 2 ^ 0 ≡ 0 = omega arith in let z : 0 + b ≡ b = omega arith in rw (eq-eqb (b % 2 ^ 0) 0 e, z))
+
+drop-same : (n m v : ℕ) → drop n (replicate (n + m) v) ≡ replicate m v
+drop-same n m v = rw (← replicate-append-replicate n m v) (drop-at (replicate n v) (replicate m v) n (length-replicate n v))
+
+pub mask-is : (vl c : ℕ) (s : List ℕ) → vl ≤ 2048 → s ≡ expansionOf vl c → s ++ drop (vl / 16) (replicate 128 0) ≡ padded (expansionOf vl c)
+unfolding padded expansionOf
+mask-is vl c s h e =
+    let l = row-length (expansionBit vl c) (vl / 16) in
+    let r : vl / 16 + (128 - vl / 16) ≡ 128 = omega arith in
+    let d : drop (vl / 16) (replicate {A = ℕ} 128 0) ≡ replicate (128 - vl / 16) 0 = ap (λ (n : ℕ). drop (vl / 16) (replicate n 0)) (sym r) ∙ drop-same (vl / 16) (128 - vl / 16) 0 in
+    rw (e, d, l)
+
+-- where an element's place is asked only at a place, it may be written anew
+under : (a : Bool) (f : ℕ → Bool) (x y : ℕ) → (a ≡ true → x ≡ y) → (a && f x) ≡ (a && f y)
+under true f x y e = ap f (e refl)
+under false f x y e = refl
+
+module _ (vl size p c s : ℕ) (even : vl % 128 ≡ 0) (l : Log size s) where
+  -- E elements of the instruction's size, each at index·size/8
+  place : (b : ℕ) → b % 2 ^ s ≡ 0 → (p * (vl / size) + b / 2 ^ s) * 2 ^ s ≡ p * (vl / 8) + b
+  place b h =
+      let u = unit s (l .small) in
+      rw (elements vl l, add-mul, mul-assoc, whole (2 ^ s) (vl / 8) u (omega arith), back (2 ^ s) b u h)
+
+  pub portion-strip : row (stripBit vl c s (p * (vl / 8))) (vl / 64) ≡ portionOf vl size p c
+  unfolding portionOf portionBit stripBit
+  portion-strip =
+      row-same (stripBit vl c s (p * (vl / 8))) (portionBit vl size p c) (vl / 64)
+      (λ b. rw (unit-of l) (sym (under (eqb (b % 2 ^ s) 0) (expansionBit vl c) ((p * (vl / size) + b / 2 ^ s) * 2 ^ s) (p * (vl / 8) + b) (λ e. place b (eqb-true (b % 2 ^ s) 0 e)))))
+
+-- what the tests before an extraction say
+pub record Extractable (vl size p room : ℕ) : Type 0 where
+  pub length : Length vl
+  pub log : Log size (logOf size)
+  pub within : p < 4
+  pub whole : room ≡ vl / 64
+
+pub extractable-is : (vl size p room : ℕ) → extractable vl size p room ≡ true → Extractable vl size p room
+unfolding extractable
+extractable-is vl size p room h =
+    let a = both-yes (lengthAllowed vl && isSize size && ltb p 4) (eqb room (vl / 64)) h in
+    let b = both-yes (lengthAllowed vl && isSize size) (ltb p 4) (a .0) in
+    let d = both-yes (lengthAllowed vl) (isSize size) (b .0) in
+    record { length = length-is vl (d .0); log = log-is size (size-is size (d .1)); within = ltb-true p 4 (b .1); whole = eqb-true room (vl / 64) (a .1) }
+
+pub start-fits : (p vl : ℕ) → p < 4 → vl ≤ 2048 → p * (vl / 8) < 2 ^ 32
+start-fits p vl h l =
+    let a : p ≤ 3 = omega arith in
+    let b : vl / 8 ≤ 256 = omega arith in
+    let t : p * (vl / 8) ≤ 3 * 256 = mul-le-mul a b in omega arith
+
+pub start-whole : (p vl : ℕ) → vl % 128 ≡ 0 → p * (vl / 8) % 8 ≡ 0
+start-whole p vl even =
+    let e : vl / 8 ≡ 8 * (vl / 64) = omega arith in
+    let q : p * (vl / 8) ≡ 8 * (p * (vl / 64)) = rw e (mul-left-comm p 8 (vl / 64)) in omega arith

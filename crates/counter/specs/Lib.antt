@@ -1,0 +1,4 @@
+pub mod Counter
+pub mod Portion
+pub mod Strips
+pub mod Points

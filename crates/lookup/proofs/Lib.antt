@@ -1,0 +1,4 @@
+pub mod Lookups
+pub mod Places
+pub mod Files
+pub mod Accepted

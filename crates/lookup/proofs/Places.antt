@@ -1,0 +1,79 @@
+-- No index leaves Zn and no destination the file: a segment's destinations times the index width are at most the result's bits.
+use mathlib.Core.Path.{_≡_, sym, ap, _∙_}
+use mathlib.Core.Logic.{⊎-elim, ⊎-map, _⊎_}
+use Prim.Native.Nat.{ℕ, suc, _+_, _*_, _/_, _%_, _≤_, _<_}
+use native.Mathlib.Nat.{mul-assoc, mul-comm, mul-suc, mul-le-mul-left, mul-le-mul-right, le-trans, suc-mul, div-mul-le-self, mul-div-le, le-div-iff-mul-le}
+use native.Mathlib.Omega.{arith}
+use lib.Dec.{lit<}
+use Rattle.lookup.specs.Needed.{Kind, LutiReady}
+use Rattle.lookup.specs.Claims.{PositionInside, SevenNeverComes}
+
+-- the indexes of the destinations up to r have at most VL bits
+up-to : (k s vl d segment r : ℕ) → d * suc segment * k ≤ s → r < d → suc (d * segment + r) * (vl / s) * k ≤ vl
+up-to k s vl d segment r i l =
+    let m : d * suc segment ≡ d * segment + d = mul-suc d segment in
+    let p : suc (d * segment + r) ≤ d * suc segment = omega arith in
+    let q : suc (d * segment + r) * k ≤ s = le-trans (mul-le-mul-right k p) i in
+    let t : suc (d * segment + r) * (vl / s) * k ≡ suc (d * segment + r) * k * (vl / s) =
+    mul-assoc (suc (d * segment + r)) (vl / s) k ∙ ap (λ (x : ℕ). suc (d * segment + r) * x) (mul-comm (vl / s) k) ∙ sym (mul-assoc (suc (d * segment + r)) k (vl / s))
+    in
+    rw t (le-trans (mul-le-mul-right (vl / s) q) (mul-div-le vl s))
+
+pub position-inside : PositionInside
+position-inside k s vl d segment r e p i l h =
+    let q : suc (d * segment + r) * (vl / s) ≤ vl / k = le-div-iff-mul-le p .1 (up-to k s vl d segment r i l) in
+    let m = suc-mul (d * segment + r) (vl / s) in omega arith
+
+pub seven-never-comes : SevenNeverComes
+seven-never-comes s vl i1 r e h l b =
+    let i : 4 * suc (i1 % (s / 16)) * 4 ≤ s = ⊎-elim (λ (a : s ≡ 16). rw a (omega arith)) (λ (a : s ≡ 32). rw a (omega arith)) h in
+    position-inside 4 s vl 4 (i1 % (s / 16)) r e (lit< tt) i l b
+
+-- the index bytes of a destination
+pub each-is : {k s : ℕ} (vl : ℕ) → vl % 128 ≡ 0 → Kind k → (s ≡ 16) ⊎ (s ≡ 32) → vl / s * k / 8 * (8 / k) ≡ vl / s
+each-is {k} {s} vl e h r =
+    let f : vl / 16 ≡ 8 * (vl / 128) = omega arith in
+    let g : vl / 32 ≡ 4 * (vl / 128) = omega arith in
+    ⊎-elim
+    (λ (a : k ≡ 2). ⊎-elim (λ (b : s ≡ 16). rw (a, b, f) (omega arith)) (λ (b : s ≡ 32). rw (a, b, g) (omega arith)) r)
+    (λ (a : k ≡ 4). ⊎-elim (λ (b : s ≡ 16). rw (a, b, f) (omega arith)) (λ (b : s ≡ 32). rw (a, b, g) (omega arith)) r)
+    h
+
+-- a register's elements are its bytes
+pub elements-are : {s : ℕ} (vl : ℕ) → vl % 128 ≡ 0 → (s ≡ 16) ⊎ (s ≡ 32) → vl / s * (s / 8) ≡ vl / 8
+elements-are vl e r = ⊎-elim (λ b. rw b (omega arith)) (λ b. rw b (omega arith)) r
+
+pub element-of : {s : ℕ} → (s ≡ 16) ⊎ (s ≡ 32) → (s / 8 ≡ 2) ⊎ (s / 8 ≡ 4)
+element-of r = ⊎-map (λ b. rw b) (λ b. rw b) r
+
+pub size-bounds : {s : ℕ} → (s ≡ 16) ⊎ (s ≡ 32) → (16 ≤ s) × (s ≤ 32)
+size-bounds r = ⊎-elim (λ b. (omega arith, omega arith)) (λ b. (omega arith, omega arith)) r
+
+-- what the code's arithmetic asks at destination r
+pub record Turn (vl k s d segment first stride r : ℕ) : Type 0 where
+  pub number : d * segment + r < 32
+  pub register : first + stride * r < 32
+  pub inside : (d * segment + r) * (vl / s * k / 8) + vl / s * k / 8 ≤ vl / 8
+
+module _ {file table vl k s d segment zn first stride : ℕ} (op : LutiReady file table vl k s d segment zn first stride) (r : ℕ) (l : r < d) where
+  number : d * segment + r < 32
+  number =
+      let m : d * suc segment ≡ d * segment + d = mul-suc d segment in
+      let p : suc (d * segment + r) ≤ d * suc segment = omega arith in
+      let q : suc (d * segment + r) * k ≤ s = le-trans (mul-le-mul-right k p) (op .inside) in
+      let t : suc (d * segment + r) * 2 ≤ suc (d * segment + r) * k = mul-le-mul-left (suc (d * segment + r)) (⊎-elim (λ a. omega arith) (λ a. omega arith) (op .kind)) in
+      let b = size-bounds (op .result) in omega arith
+
+  register : first + stride * r < 32
+  register = let q : stride * suc r ≤ stride * d = mul-le-mul-left stride l in let m = mul-suc stride r in let t = op .to in omega arith
+
+  bytes-inside : (d * segment + r) * (vl / s * k / 8) + vl / s * k / 8 ≤ vl / 8
+  bytes-inside =
+      let n = suc (d * segment + r) in
+      let h : n * (vl / s * k) ≤ vl = rw (← mul-assoc n (vl / s) k) (up-to k s vl d segment r (op .inside) l) in
+      let g : n * (vl / s * k / 8) * 8 ≤ n * (vl / s * k) = rw (mul-assoc n (vl / s * k / 8) 8) (mul-le-mul-left n (div-mul-le-self (vl / s * k) 8)) in
+      let q : n * (vl / s * k / 8) ≤ vl / 8 = le-div-iff-mul-le (lit< tt) .1 (le-trans g h) in
+      let m = suc-mul (d * segment + r) (vl / s * k / 8) in omega arith
+
+  pub turn-at : Turn vl k s d segment first stride r
+  turn-at = record { number = number; register = register; inside = bytes-inside }

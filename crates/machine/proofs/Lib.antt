@@ -1,0 +1,5 @@
+pub mod Operations
+pub mod Inside
+pub mod Steps
+pub mod Registers
+pub mod BoardPoints

@@ -1,0 +1,142 @@
+-- What each leaf leaves of its file is the machine with the instruction's new contents put: the tests of the leaf hold of fields in range, and the slots are the table's.
+use mathlib.Core.Path.{_≡_, refl, sym}
+use mathlib.Core.Bool.{true, _&&_, _||_}
+use mathlib.Core.List.{List, [], _∷_}
+use Prim.Native.Nat.{ℕ, zero, suc, _+_, _-_, _*_, _/_, _%_, _<_, _≤_}
+use native.Mathlib.Nat.{add-zero}
+use native.Mathlib.Omega.{arith}
+use lib.Dec.{eqb, ltb, leb}
+use lib.ListN.{length, getD}
+use lib.Seq.{slice, take-all}
+use borrow.Author.Tests.{lt-ltb, le-leb, ltb-true, leb-true}
+use Rattle.setting.specs.Allowed.{lengthAllowed}
+use Rattle.element.specs.Size.{isSize}
+use Rattle.element.specs.Slots.{slot}
+use Rattle.order.specs.Touch.{gets, puts}
+use Rattle.encoding.specs.Instructions.{inRange, pextInRange, dupInRange, narrowInRange}
+use Rattle.encoding.proofs.FieldLaws.{and-true, size-cases, pext-ranges, dup-ranges, luti-ranges, strided-zd, narrow-ranges}
+use Rattle.encoding.proofs.WordLaws.{known-range}
+use Rattle.encoding.specs.declared.Instruction.{Instruction}
+use Rattle.encoding.specs.declared.Instruction.the-variants.{Pext1, Pext2, Dup, Luti4c, Luti4s, Uqrshrnb}
+use Rattle.predicate.specs.Pext.{pextReady, pextSlots, pextLeaves}
+use Rattle.predicate.specs.Dup.{dupReady, dupLeaves}
+use Rattle.lookup.specs.Lookup.{lutiFile}
+use Rattle.narrow.specs.Narrow.{uqrshrnbFile}
+use Rattle.lookup.specs.Calls.{luti4Ready, luti4File}
+use Rattle.narrow.specs.Calls.{narrowReady, narrowFile}
+use Rattle.machine.specs.Machine.{Machine, machine, get, put}
+use Rattle.machine.specs.Gives.{givesOf}
+use Rattle.machine.specs.Done.{Ready, doneOf}
+use Rattle.machine.specs.declared.Scalars.{Scalars}
+
+-- an instruction that is known
+pub known-done : {i j : Instruction} {a b c vl : ℕ} {m : Machine} (n : Machine) → i ≡ j → Ready a b c vl i → (Ready a b c vl j → m ≡ doneOf vl j n) → m ≡ doneOf vl i n
+known-done n e r f = rw e (f (rw (sym e) r))
+
+size-of-pext : (bound size portion counter pd : ℕ) → pextInRange bound size portion counter pd ≡ true → isSize size ≡ true
+size-of-pext bound size portion counter pd e =
+    and-true (isSize size) (ltb portion bound) (and-true (isSize size && ltb portion bound) (leb 8 counter && ltb counter 16) (and-true (isSize size && ltb portion bound && (leb 8 counter && ltb counter 16)) (ltb pd 16) e .0) .0) .0
+
+-- what the calls ask of a known instruction
+pub pext2-i1 : {i : Instruction} {a b c vl : ℕ} (size i1 counter pd : ℕ) → i ≡ Pext2 size i1 counter pd → Ready a b c vl i → i1 < 2
+pext2-i1 size i1 counter pd e r = pext-ranges 2 size i1 counter pd (known-range e (r .range)) .portion-lt
+
+pub dup-index : {i : Instruction} {a b c vl : ℕ} (size offset index pg pn pd : ℕ) → i ≡ Dup size offset index pg pn pd → Ready a b c vl i → (12 ≤ index) × (index < 16)
+dup-index size offset index pg pn pd e r = let g = dup-ranges size offset index pg pn pd (known-range e (r .range)) in (g .index-ge, g .index-lt)
+
+-- the tests of the leaves hold
+pext-ready : (bound size portion counter pd first n vl : ℕ) → pextInRange bound size portion counter pd ≡ true → (eqb n 1 || eqb n 2) ≡ true → first + n ≤ 4 → lengthAllowed vl ≡ true
+    → pextReady 512 vl size first n counter pd ≡ true
+unfolding pextReady
+pext-ready bound size portion counter pd first n vl e h l a =
+    let g = pext-ranges bound size portion counter pd e in
+    rw (a, size-of-pext bound size portion counter pd e, h, le-leb (first + n) 4 l, lt-ltb counter 16 (g .counter-lt), lt-ltb pd 16 (g .pd-lt))
+
+dup-ready : (size offset index pg pn pd vl : ℕ) → dupInRange size offset index pg pn pd ≡ true → lengthAllowed vl ≡ true → dupReady 512 vl size offset pg pn pd ≡ true
+unfolding dupReady
+dup-ready size offset index pg pn pd vl e a =
+    let g = dup-ranges size offset index pg pn pd e in
+    let h = and-true (isSize size) (ltb offset (128 / size)) (and-true (isSize size && ltb offset (128 / size)) (leb 12 index && ltb index 16) (and-true (isSize size && ltb offset (128 / size) && (leb 12 index && ltb index 16)) (ltb pg 16 && ltb pn 16 && ltb pd 16) e .0) .0) in
+    rw (a, h .0, lt-ltb offset 16 (offset-lt size offset (h .0) (ltb-true offset (128 / size) (h .1))), lt-ltb pg 16 (g .pg-lt), lt-ltb pn 16 (g .pn-lt), lt-ltb pd 16 (g .pd-lt))
+  where
+    offset-lt : (n o : ℕ) → isSize n ≡ true → o < 128 / n → o < 16
+    offset-lt n o h l = size-cases (λ n. (k : ℕ) → k < 128 / n → k < 16) (λ k l. l) (λ k l. omega arith) (λ k l. omega arith) (λ k l. omega arith) n h o l
+
+narrow-ready : (size shift zn zd vl : ℕ) → narrowInRange size shift zn zd ≡ true → lengthAllowed vl ≡ true → narrowReady 8192 vl size shift zn zd ≡ true
+unfolding narrowReady
+narrow-ready size shift zn zd vl e a =
+    let g = narrow-ranges size shift zn zd e in
+    let k = and-true (leb 1 shift) (leb shift size) (g .1) in
+    let l : 0 < shift = leb-true 1 shift (k .0) in
+    rw (a, g .0, lt-ltb 0 shift l, k .1, lt-ltb zn 32 (g .2), lt-ltb zd 32 (g .3))
+
+luti4c-ready : (size i1 zn zd vl : ℕ) → inRange (Luti4c size i1 zn zd) ≡ true → lengthAllowed vl ≡ true → luti4Ready 8192 64 vl size i1 zn zd 1 ≡ true
+unfolding luti4Ready
+luti4c-ready size i1 zn zd vl e a =
+    let g = luti-ranges (eqb size 16 || eqb size 32) i1 zn (eqb (zd % 4) 0 && leb zd 28) e in
+    let most = leb-true zd 28 (and-true (eqb (zd % 4) 0) (leb zd 28) (g .3) .1) in
+    let l : zd + 3 * 1 < 32 = omega arith in
+    rw (a, g .0, lt-ltb i1 2 (g .1), lt-ltb zn 32 (g .2), lt-ltb (zd + 3 * 1) 32 l)
+
+luti4s-ready : (size i1 zn zd vl : ℕ) → inRange (Luti4s size i1 zn zd) ≡ true → lengthAllowed vl ≡ true → luti4Ready 8192 64 vl size i1 zn zd 4 ≡ true
+unfolding luti4Ready
+luti4s-ready size i1 zn zd vl e a =
+    let g = luti-ranges (eqb size 16) i1 zn (ltb zd 4 || (leb 16 zd && ltb zd 20)) e in
+    let d = strided-zd zd (g .3) in
+    let l : zd + 3 * 4 < 32 = omega arith in
+    rw (a, g .0, lt-ltb i1 2 (g .1), lt-ltb zn 32 (g .2), lt-ltb (zd + 3 * 4) 32 l)
+
+-- the index register's slot holds its number
+one-of-four : (j a b c d : ℕ) → j < 4 → getD (a ∷ b ∷ c ∷ d ∷ []) j 0 ≡ getD (slot 1 1 j (a ∷ b ∷ c ∷ d ∷ [])) 0 0
+unfolding slot
+one-of-four zero a b c d h = refl
+one-of-four (suc zero) a b c d h = refl
+one-of-four (suc (suc zero)) a b c d h = refl
+one-of-four (suc (suc (suc zero))) a b c d h = refl
+one-of-four (suc (suc (suc (suc j)))) a b c d h = absurd (omega arith)
+
+-- the table's slot is the whole table
+whole-table : (t : List ℕ) → length t ≡ 64 → slice (64 * 0) (64 * 0 + 64) t ≡ t
+whole-table t h = take-all 64 t (omega arith)
+
+module _ (z p p′ zt : List ℕ) (s : Scalars) (vl : ℕ) where
+  pub pext1-done : (size imm2 counter pd : ℕ) → Ready (length z) (length p) (length zt) vl (Pext1 size imm2 counter pd) → p′ ≡ pextLeaves vl size imm2 1 counter pd p
+      → machine z p′ zt s ≡ doneOf vl (Pext1 size imm2 counter pd) (machine z p zt s)
+  unfolding doneOf gets puts get put givesOf pextLeaves pextSlots
+  pext1-done size imm2 counter pd r e =
+      let g = pext-ranges 4 size imm2 counter pd (r .range) in
+      let d : (pd + 0) % 16 ≡ pd = omega (arith, g .pd-lt) in
+      rw (e, r .predicates, pext-ready 4 size imm2 counter pd imm2 1 vl (r .range) refl (omega (arith, g .portion-lt)) (r .length), d, add-zero imm2)
+
+  pub pext2-done : (size i1 counter pd : ℕ) → Ready (length z) (length p) (length zt) vl (Pext2 size i1 counter pd) → p′ ≡ pextLeaves vl size (2 * i1) 2 counter pd p
+      → machine z p′ zt s ≡ doneOf vl (Pext2 size i1 counter pd) (machine z p zt s)
+  unfolding doneOf gets puts get put givesOf pextLeaves pextSlots
+  pext2-done size i1 counter pd r e =
+      let g = pext-ranges 2 size i1 counter pd (r .range) in
+      let d : (pd + 0) % 16 ≡ pd = omega (arith, g .pd-lt) in
+      rw (e, r .predicates, pext-ready 2 size i1 counter pd (2 * i1) 2 vl (r .range) refl (omega (arith, g .portion-lt)) (r .length), d, add-zero (2 * i1))
+
+  pub dup-done : (size offset index pg pn pd w : ℕ) → Ready (length z) (length p) (length zt) vl (Dup size offset index pg pn pd)
+      → w ≡ getD (s .w12 ∷ s .w13 ∷ s .w14 ∷ s .w15 ∷ []) (index - 12) 0 → p′ ≡ dupLeaves vl size w offset pg pn pd p
+      → machine z p′ zt s ≡ doneOf vl (Dup size offset index pg pn pd) (machine z p zt s)
+  unfolding doneOf gets puts get put givesOf dupLeaves
+  dup-done size offset index pg pn pd w r q e =
+      let g = dup-ranges size offset index pg pn pd (r .range) in
+      let k : index - 12 < 4 = omega (arith, g .index-ge, g .index-lt) in
+      rw (e, r .predicates, dup-ready size offset index pg pn pd vl (r .range) (r .length), q, one-of-four (index - 12) (s .w12) (s .w13) (s .w14) (s .w15) k)
+
+module _ (z z′ p zt : List ℕ) (s : Scalars) (vl : ℕ) where
+  pub uqrshrnb-done : (size shift zn zd : ℕ) → Ready (length z) (length p) (length zt) vl (Uqrshrnb size shift zn zd) → z′ ≡ narrowFile vl size shift zn zd z
+      → machine z′ p zt s ≡ doneOf vl (Uqrshrnb size shift zn zd) (machine z p zt s)
+  unfolding doneOf gets puts get put givesOf narrowFile uqrshrnbFile
+  uqrshrnb-done size shift zn zd r e = rw (e, r .vectors, narrow-ready size shift zn zd vl (r .range) (r .length))
+
+  pub luti4c-done : (size i1 zn zd : ℕ) → Ready (length z) (length p) (length zt) vl (Luti4c size i1 zn zd) → z′ ≡ luti4File vl size i1 zn zd 1 zt z
+      → machine z′ p zt s ≡ doneOf vl (Luti4c size i1 zn zd) (machine z p zt s)
+  unfolding doneOf gets puts get put givesOf luti4File lutiFile slot
+  luti4c-done size i1 zn zd r e = rw (e, r .vectors, r .table, luti4c-ready size i1 zn zd vl (r .range) (r .length), add-zero zd, whole-table zt (r .table))
+
+  pub luti4s-done : (size i1 zn zd : ℕ) → Ready (length z) (length p) (length zt) vl (Luti4s size i1 zn zd) → z′ ≡ luti4File vl size i1 zn zd 4 zt z
+      → machine z′ p zt s ≡ doneOf vl (Luti4s size i1 zn zd) (machine z p zt s)
+  unfolding doneOf gets puts get put givesOf luti4File lutiFile slot
+  luti4s-done size i1 zn zd r e = rw (e, r .vectors, r .table, luti4s-ready size i1 zn zd vl (r .range) (r .length), add-zero zd, whole-table zt (r .table))

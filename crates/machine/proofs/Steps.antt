@@ -1,0 +1,83 @@
+-- What a step is in each case that the code meets, over plain numbers and lists: what the proofs of `execute` and `step` cite.
+use mathlib.Core.Path.{_≡_, refl, sym, ap, _∙_}
+use mathlib.Core.Bool.{true, false, _&&_}
+use mathlib.Core.List.{List}
+use Prim.Native.Nat.{ℕ, zero, suc}
+use lib.Dec.{eqb}
+use lib.ListN.{length}
+use borrow.Author.Tests.{eqb-true}
+use Rattle.setting.specs.Allowed.{lengthAllowed, featuresAllowed, allowedOf}
+use Rattle.setting.specs.Numbers.{accept, refuse, numberOf}
+use Rattle.setting.specs.declared.Setting.{Setting}
+use Rattle.setting.specs.declared.Answer.{Answer}
+use Rattle.order.specs.Touch.{perform}
+use Rattle.encoding.specs.Decode.{decodeOf, decodedAs}
+use Rattle.encoding.specs.declared.Instruction.{Instruction}
+use Rattle.encoding.specs.declared.Decoded.{Decoded}
+use Rattle.encoding.specs.declared.Decoded.the-variants.{Fields, Refused}
+use Rattle.encoding.proofs.FieldLaws.{and-true}
+use Rattle.encoding.proofs.Round.{read-in-range, refused-three}
+use Rattle.machine.specs.Machine.{Machine, machine, advanced, next}
+use Rattle.machine.specs.Step.{Step, sized, firstFailed, needsOf, refusalOf, execOf, after, stepOf}
+use Rattle.machine.specs.Done.{Ready, doneOf, executed, executedOf}
+use Rattle.machine.specs.declared.Scalars.{Scalars}
+
+-- ---- an instruction that was read
+module _ (s : Setting) (i : Instruction) (m : Machine) where
+  pub refused-for : (n : ℕ) → n ≡ firstFailed (needsOf s i (m .scalars)) → (n ≡ 0 → ⊥) → _≡_ {A = Step} (record { number = n; left = m }) (executedOf s i m)
+  unfolding executedOf
+  refused-for zero e ne = absurd (ne refl)
+  refused-for (suc k) e ne = ap (λ (n : ℕ). executed n (s .vl) i m) e
+
+  pub done-for : (z p zt : List ℕ) (c d : Scalars) → 0 ≡ firstFailed (needsOf s i (m .scalars)) → machine z p zt c ≡ doneOf (s .vl) i m → d ≡ advanced c
+      → _≡_ {A = Step} (record { number = 0; left = machine z p zt d }) (executedOf s i m)
+  unfolding executedOf next
+  done-for z p zt c d e q a =
+      ap (λ (x : Scalars). record { number = 0; left = machine z p zt x }) a ∙ ap (λ (x : Machine). record { number = 0; left = next x }) q ∙ ap (λ (n : ℕ). executed n (s .vl) i m) e
+
+-- ---- a word
+module _ (s : Setting) (w : ℕ) (m : Machine) where
+  pub step-not-allowed : allowedOf s ≡ false → _≡_ {A = Step} (record { number = 1; left = m }) (stepOf s w m)
+  unfolding stepOf refusalOf
+  step-not-allowed a = rw a
+
+  module _ (a : allowedOf s ≡ true) where
+    pub step-not-sized : sized m ≡ false → _≡_ {A = Step} (record { number = 2; left = m }) (stepOf s w m)
+    unfolding stepOf refusalOf
+    step-not-sized h = rw (a, h)
+
+    module _ (h : sized m ≡ true) where
+      pub step-undefined : (d : Decoded) (x : Answer) → decodedAs d ≡ decodeOf s w → d ≡ Refused x → _≡_ {A = Step} (record { number = numberOf x; left = m }) (stepOf s w m)
+      unfolding stepOf refusalOf
+      step-undefined d x e k =
+          let r : decodeOf s w ≡ refuse (numberOf x) = sym e ∙ ap decodedAs k in
+          let three : numberOf x ≡ 3 = refused-three s w (numberOf x) a r in
+          rw (a, h, r, three)
+
+      exec-is : (i : Instruction) → decodeOf s w ≡ accept i → execOf s w m ≡ next (doneOf (s .vl) i m)
+      unfolding execOf perform doneOf
+      exec-is i e = rw e
+
+      after-is : (i : Instruction) → decodeOf s w ≡ accept i → (k : ℕ) → executed k (s .vl) i m ≡ after k s w m
+      after-is i e zero = ap (λ (x : Machine). record { number = 0; left = x }) (sym (exec-is i e))
+      after-is i e (suc k) = refl
+
+      pub step-executes : (d : Decoded) (i : Instruction) → decodedAs d ≡ decodeOf s w → d ≡ Fields i → executedOf s i m ≡ stepOf s w m
+      unfolding stepOf refusalOf executedOf
+      step-executes d i e k =
+          let r : decodeOf s w ≡ accept i = sym e ∙ ap decodedAs k in
+          let q : firstFailed (needsOf s i (m .scalars)) ≡ refusalOf s w m = rw (a, h, r) in
+          after-is i r (firstFailed (needsOf s i (m .scalars))) ∙ ap (λ (n : ℕ). after n s w m) q
+
+      pub step-ready : (d : Decoded) (i : Instruction) → decodedAs d ≡ decodeOf s w → d ≡ Fields i → Ready (length (m .z)) (length (m .p)) (length (m .zt)) (s .vl) i
+      unfolding allowedOf
+      step-ready d i e k =
+          let b = and-true (eqb (length (m .z)) 8192 && eqb (length (m .p)) 512) (eqb (length (m .zt)) 64) h in
+          let c = and-true (eqb (length (m .z)) 8192) (eqb (length (m .p)) 512) (b .0) in
+          record {
+            vectors = eqb-true (length (m .z)) 8192 (c .0);
+            predicates = eqb-true (length (m .p)) 512 (c .1);
+            table = eqb-true (length (m .zt)) 64 (b .1);
+            length = and-true (lengthAllowed (s .vl)) (featuresAllowed (s .features)) a .0;
+            range = read-in-range s i w (sym e ∙ ap decodedAs k);
+          }

@@ -1,0 +1,11 @@
+-- `claims` meets its contract: the theorems, each proved in Registers or BoardPoints.
+use Rattle.machine.proofs.Registers.{registers}
+use Rattle.machine.proofs.BoardPoints.{starred-points}
+use Rattle.machine.proofs.claims.Statement.{statement}
+use Rattle.machine.proofs.claims.Tie as tie
+
+returns : tie.Need-returns
+returns c = record { registers = registers; starred = starred-points }
+
+pub claims-spec : {M : Type 1} → statement M
+claims-spec = tie.close (tie.spec returns)

@@ -1,0 +1,32 @@
+-- What the code goes by: an instruction's new contents put into a machine, PC apart.
+use mathlib.Core.Path.{_≡_}
+use mathlib.Core.Bool.{true}
+use Prim.Native.Nat.{ℕ, zero, suc}
+use Rattle.setting.specs.Allowed.{lengthAllowed}
+use Rattle.order.specs.Touch.{gets, puts}
+use Rattle.encoding.specs.Instructions.{inRange}
+use Rattle.encoding.specs.declared.Instruction.{Instruction}
+use Rattle.machine.specs.Machine.{Machine, get, put, next}
+use Rattle.machine.specs.Touched.{readsOf, writesOf}
+use Rattle.machine.specs.Gives.{givesOf}
+use Rattle.machine.specs.Step.{Step, firstFailed, needsOf}
+use Rattle.setting.specs.declared.Setting.{Setting}
+
+unfoldable pub doneOf : ℕ → Instruction → Machine → Machine
+doneOf vl i m = puts (put vl) (writesOf i) (givesOf vl i (gets (get vl) (readsOf i) m)) m
+
+-- the files have their lengths, VL is allowed and the fields are in range
+pub record Ready (z p zt vl : ℕ) (i : Instruction) : Type 0 where
+  pub vectors : z ≡ 8192
+  pub predicates : p ≡ 512
+  pub table : zt ≡ 64
+  pub length : lengthAllowed vl ≡ true
+  pub range : inRange i ≡ true
+
+-- refused for the first need that is not met, or done with PC moved
+abbrev pub executed : ℕ → ℕ → Instruction → Machine → Step
+executed zero vl i m = record { number = 0; left = next (doneOf vl i m) }
+executed (suc k) vl i m = record { number = suc k; left = m }
+
+unfoldable pub executedOf : Setting → Instruction → Machine → Step
+executedOf s i m = executed (firstFailed (needsOf s i (m .scalars))) (s .vl) i m

@@ -1,0 +1,7 @@
+pub mod Machine
+pub mod Touched
+pub mod Gives
+pub mod Step
+pub mod Done
+pub mod Points
+pub mod Claims

@@ -1,0 +1,22 @@
+-- Document 01, "Points on the board": the starred cases 1 to 10 as one list, each crate's own and of 10 what the word does.
+use mathlib.Core.Path.{_≡_}
+use mathlib.Core.List.{List, [], _∷_, _++_}
+use Rattle.encoding.specs.Points.{board, readingPoints}
+use Rattle.narrow.specs.Points.{vectorPoints}
+use Rattle.counter.specs.Points.{counterPoints}
+use Rattle.predicate.specs.Points.{predicatePoints}
+use Rattle.machine.specs.Machine.{P, W}
+use Rattle.machine.specs.Step.{reads, gives}
+
+abbrev pub elementPoints : List (Type 0)
+elementPoints =
+    -- 10: 252c4000 reads P0 twice, as Pg and as Pn, and W12
+    (reads board 0x252c4000 ≡ P 0 ∷ P 0 ∷ W 12 ∷ [])
+    -- with W12 = ffffffff, Pg all true: element 0 of Pn alone true, and it alone false
+    ∷ (gives board 0x252c4000 ((0xff ∷ 0xff ∷ []) ∷ (0x01 ∷ 0x00 ∷ []) ∷ (0xffffffff ∷ []) ∷ []) ≡ (0xff ∷ 0xff ∷ []) ∷ [])
+    ∷ (gives board 0x252c4000 ((0xff ∷ 0xff ∷ []) ∷ (0xfe ∷ 0xff ∷ []) ∷ (0xffffffff ∷ []) ∷ []) ≡ (0x00 ∷ 0x00 ∷ []) ∷ [])
+    ∷ []
+
+-- 1 to 3 and the readings of 10; 4 and 5; 7 and 8; 6, 9 and the index of 10; the rest of 10
+abbrev pub starred : List (Type 0)
+starred = readingPoints ++ (vectorPoints ++ (counterPoints ++ (predicatePoints ++ elementPoints)))

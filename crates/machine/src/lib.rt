@@ -1,0 +1,106 @@
+// One step of the machine: a word read, its access tested, its operation done on the lent files, and PC advanced.
+mod access;
+mod operate;
+
+ghost use mathlib.Core.Path.{_≡_};
+ghost use mathlib.Core.Bool.{_&&_};
+ghost use lib.Dec.{eqb};
+ghost use Rattle.machine.specs.Machine.{machine, advanced};
+ghost use lib.ListN.{length};
+ghost use Rattle.machine.specs.Step.{stepOf, steppedAs};
+ghost use Rattle.machine.specs.Done.{Ready, executedOf};
+ghost use Rattle.machine.specs.Claims.{Claims};
+use encoding::Decoded;
+use encoding::Instruction;
+use setting::Answer;
+use setting::Setting;
+
+// W12 to W15 and PC, with the access flags: V, vector access open; S, streaming on and open; T, ZT0 on and open.
+#[repr(C)]
+pub struct Scalars {
+    pub w12: u32,
+    pub w13: u32,
+    pub w14: u32,
+    pub w15: u32,
+    pub pc: u64,
+    pub v: bool,
+    pub s: bool,
+    pub t: bool,
+}
+
+pub struct Stepped {
+    pub answer: Answer,
+    pub scalars: Scalars,
+}
+
+fn advance(scalars: Scalars) -> Scalars
+    ensures { λ r. ⌜ r ≡ advanced scalars ⌝ }
+{
+    let mut next = scalars;
+    next.pc = std::num::wrapping_add_u64(scalars.pc, 4);
+    next
+}
+
+fn sized(z: usize, p: usize, zt: usize) -> bool
+    ensures { λ r. ⌜ r ≡ (eqb z 8192 && eqb p 512 && eqb zt 64) ⌝ }
+{
+    (z == 8192) & (p == 512) & (zt == 64)
+}
+
+// An instruction that was read: refused for its access, or done.
+fn execute(
+    z: &mut [u8],
+    p: &mut [u8],
+    zt: &[u8],
+    scalars: Scalars,
+    setting: Setting,
+    instruction: Instruction,
+) -> Stepped
+    requires { ⌜ Ready (length (now z)) (length (now p)) (length (now zt)) (setting .vl) instruction ⌝ }
+    ensures { λ r. ⌜ steppedAs r (now (z .exit)) (now (p .exit)) (now (zt .entry)) ≡ executedOf setting instruction (machine (now (z .entry)) (now (p .entry)) (now (zt .entry)) scalars) ⌝ }
+{
+    let vl = setting.vl;
+    let answer = access::access(setting, scalars, instruction);
+    if setting::number(answer) != 0 {
+        return Stepped { answer, scalars };
+    }
+    operate::operate(z, p, zt, scalars, vl, instruction);
+    Stepped {
+        answer: Answer::Done,
+        scalars: advance(scalars),
+    }
+}
+
+// One word. ZT0 is lent for words to come that write it; today it stays.
+pub fn step(
+    z: &mut [u8],
+    p: &mut [u8],
+    zt: &mut [u8],
+    scalars: Scalars,
+    setting: Setting,
+    word: u32,
+) -> Stepped
+    ensures { λ r. ⌜ steppedAs r (now (z .exit)) (now (p .exit)) (now (zt .exit)) ≡ stepOf setting word (machine (now (z .entry)) (now (p .entry)) (now (zt .entry)) scalars) ⌝ }
+{
+    if !setting::allowed(setting) {
+        return Stepped {
+            answer: Answer::NotAllowed,
+            scalars,
+        };
+    }
+    if !sized(z.len(), p.len(), zt.len()) {
+        return Stepped {
+            answer: Answer::WrongLength,
+            scalars,
+        };
+    }
+    match encoding::decode(setting, word) {
+        Decoded::Fields(instruction) => execute(z, p, zt, scalars, setting, instruction),
+        Decoded::Refused(answer) => Stepped { answer, scalars },
+    }
+}
+
+// The theorems about these definitions. It does nothing: its promise has the check demand their proofs.
+pub fn claims()
+    ensures { λ r. ⌜ Claims ⌝ }
+{}

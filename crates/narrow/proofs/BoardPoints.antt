@@ -1,0 +1,9 @@
+-- The starred cases 4 and 5: each computes.
+use mathlib.Core.Path.{refl}
+use Rattle.narrow.specs.Narrow.{rounded, narrowed}
+use Rattle.element.specs.Every.{Every}
+use Rattle.narrow.specs.Points.{vectorPoints}
+
+pub vector-points : Every vectorPoints
+unfolding narrowed rounded
+vector-points = (refl, (refl, (refl, (refl, (refl, tt)))))

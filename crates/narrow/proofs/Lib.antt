@@ -1,0 +1,4 @@
+pub mod Rounding
+pub mod Files
+pub mod Accepted
+pub mod BoardPoints

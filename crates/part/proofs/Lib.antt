@@ -1,0 +1,4 @@
+pub mod Spelling
+pub mod Widths
+pub mod Slots
+pub mod Tests

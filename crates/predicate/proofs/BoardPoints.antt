@@ -1,0 +1,15 @@
+-- The starred cases of PEXT and DUP's element: each computes.
+use mathlib.Core.Path.{refl}
+use lib.Count.{trailingZeros}
+use Rattle.element.specs.Every.{Every}
+use Rattle.element.specs.Size.{sizeOf}
+use Rattle.element.specs.Contents.{num, bytes, elem, fill, gather, octet, row}
+use Rattle.counter.specs.Counter.{topBit, countOf, elementOf, expansionBit}
+use Rattle.counter.specs.Portion.{portionBit, portionOf}
+use Rattle.predicate.specs.Pext.{pextOf}
+use Rattle.predicate.specs.Dup.{indexOf}
+use Rattle.predicate.specs.Points.{predicatePoints}
+
+pub predicate-points : Every predicatePoints
+unfolding pextOf portionOf portionBit expansionBit elementOf countOf topBit sizeOf trailingZeros row fill bytes octet gather elem num indexOf
+predicate-points = (refl, (refl, (refl, (refl, (refl, (refl, (refl, tt)))))))

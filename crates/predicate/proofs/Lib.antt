@@ -1,0 +1,4 @@
+pub mod Ready
+pub mod Portions
+pub mod Elements
+pub mod BoardPoints

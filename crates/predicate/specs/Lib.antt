@@ -1,0 +1,4 @@
+pub mod Pext
+pub mod Dup
+pub mod Operands
+pub mod Points

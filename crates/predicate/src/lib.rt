@@ -1,0 +1,107 @@
+// PEXT and DUP on a lent predicate file. Sources are read first; then the destination's slot is lent on, so no other byte can change.
+mod governed;
+
+ghost use mathlib.Core.Path.{_≡_};
+ghost use Prim.Native.Nat.{_+_, _/_};
+ghost use lib.ListN.{length};
+ghost use Rattle.element.specs.Contents.{elem};
+ghost use Rattle.element.specs.Slots.{slot, setSlot};
+ghost use Rattle.counter.specs.Portion.{portionOf};
+ghost use Rattle.predicate.specs.Pext.{pextReady, pextLeaves};
+ghost use Rattle.predicate.specs.Dup.{dupOf, dupReady, dupLeaves};
+ghost use Rattle.predicate.specs.Operands.{Register, Portion, Registers};
+ghost use Rattle.predicate.specs.Points.{Claims};
+use counter::Counter;
+
+fn can_pext(bytes: usize, vl: u32, size: u32, first: u32, portions: u32, pn: u32, pd: u32) -> bool
+    ensures { λ r. ⌜ r ≡ pextReady bytes vl size first portions pn pd ⌝ }
+{
+    (bytes == 512)
+        & setting::length_allowed(vl)
+        & element::is_size(size)
+        & ((portions == 1) | (portions == 2))
+        & ((first as u64) + (portions as u64) <= 4)
+        & ((pn < 16) & (pd < 16))
+}
+
+// The counter in Pn.
+fn source(p: &[u8], vl: u32, pn: u32) -> Counter
+    requires { ⌜ Register (length (now p)) vl pn ⌝ }
+    ensures { λ r. ⌜ r .0 ≡ elem 2 0 (slot 32 (vl / 64) pn (now (p .entry))) ⌝ }
+{
+    let a = 32 * (pn as usize);
+    let b = a + (vl / 64) as usize;
+    counter::counter_of(&p[a..b])
+}
+
+// A portion into Pd.
+fn put(p: &mut [u8], c: Counter, vl: u32, size: u32, portion: u32, pd: u32)
+    requires { ⌜ Portion (length (now p)) vl size portion pd ⌝ }
+    ensures { λ _. ⌜ now (p .exit) ≡ setSlot 32 (vl / 64) pd (portionOf vl size portion (c .0)) (now (p .entry)) ⌝ }
+{
+    let d = 32 * (pd as usize);
+    let e = d + (vl / 64) as usize;
+    counter::extract(c, vl, size, portion, &mut p[d..e]);
+}
+
+// PEXT: portions `first` and on, one or two, to Pd and the next. False, and the file as it was, for operands outside their ranges.
+pub fn pext(p: &mut [u8], vl: u32, size: u32, first: u32, portions: u32, pn: u32, pd: u32) -> bool
+    ensures answer { λ r. ⌜ r ≡ pextReady (length (now (p .entry))) vl size first portions pn pd ⌝ }
+    ensures file { λ _. ⌜ now (p .exit) ≡ pextLeaves vl size first portions pn pd (now (p .entry)) ⌝ }
+{
+    if !can_pext(p.len(), vl, size, first, portions, pn, pd) {
+        return false;
+    }
+    let c = source(p, vl, pn);
+    let mut n: u32 = 0;
+    while n < portions {
+        put(p, c, vl, size, first + n, (pd + n) % 16);
+        n += 1;
+    }
+    true
+}
+
+fn can_dup(bytes: usize, vl: u32, size: u32, offset: u32, pg: u32, pn: u32, pd: u32) -> bool
+    ensures { λ r. ⌜ r ≡ dupReady bytes vl size offset pg pn pd ⌝ }
+{
+    (bytes == 512)
+        & setting::length_allowed(vl)
+        & element::is_size(size)
+        & (offset < 16)
+        & ((pg < 16) & (pn < 16) & (pd < 16))
+}
+
+// Pn's value is read, and Pg's low bytes are copied, before Pd is lent.
+fn duplicate(p: &mut [u8], vl: u32, size: u32, w: u32, offset: u32, pg: u32, pn: u32, pd: u32)
+    requires { ⌜ Registers (length (now p)) vl size pg pn pd ⌝ }
+    ensures { λ _. ⌜ now (p .exit) ≡ setSlot 32 (vl / 64) pd (dupOf vl size (w + offset) (slot 32 (vl / 64) pg (now (p .entry))) (slot 32 (vl / 64) pn (now (p .entry)))) (now (p .entry)) ⌝ }
+{
+    let n = (vl / 64) as usize;
+    let f = 32 * (pn as usize);
+    let g = f + n;
+    let v = governed::value(&p[f..g], vl, size, w, offset);
+    let a = 32 * (pg as usize);
+    let b = a + n;
+    let mut s = [0u8; 32];
+    bytes::copy(&p[a..b], &mut s);
+    let d = 32 * (pd as usize);
+    let e = d + n;
+    governed::spread(&s[..n], v, size, &mut p[d..e]);
+}
+
+// DUP: each element true in Pg gets element W + offset of Pn. False, and the file as it was, for operands outside their ranges.
+pub fn dup(p: &mut [u8], vl: u32, size: u32, w: u32, offset: u32, pg: u32, pn: u32, pd: u32) -> bool
+    ensures answer { λ r. ⌜ r ≡ dupReady (length (now (p .entry))) vl size offset pg pn pd ⌝ }
+    ensures file { λ _. ⌜ now (p .exit) ≡ dupLeaves vl size w offset pg pn pd (now (p .entry)) ⌝ }
+{
+    if !can_dup(p.len(), vl, size, offset, pg, pn, pd) {
+        return false;
+    }
+    duplicate(p, vl, size, w, offset, pg, pn, pd);
+    true
+}
+
+// The theorems about these definitions. It does nothing: its promise has the check demand their proofs.
+pub fn claims()
+    ensures { λ r. ⌜ Claims ⌝ }
+{}

@@ -1,0 +1,92 @@
+//! What the words compute, on rows of bits; nothing here knows the machine.
+//!
+//! Each function is its paragraph of document 01 in loops. Sizes, portions
+//! and shifts are those of a decoded instruction and so are in range.
+
+use crate::bits::{element, set_element};
+use crate::counter::Counter;
+use crate::refusal::Refusal;
+
+/// One portion of a counter's mask: elements portion·E to portion·E + E − 1
+/// of the instruction's own size, E being VL/size.
+pub fn pext(counter: Counter, size: u32, portion: u32, vl: u32) -> Vec<bool> {
+    let mask = counter.expand(vl);
+    let elements = vl / size;
+    let mut result = vec![false; vl as usize / 8];
+    for e in 0..elements {
+        let index = portion * elements + e;
+        result[(e * size / 8) as usize] = mask[(index * size / 8) as usize];
+    }
+    result
+}
+
+/// The indexed element of `source` in every element that is true in
+/// `governing`.
+pub fn dup(
+    governing: &[bool],
+    source: &[bool],
+    base: u32,
+    offset: u32,
+    size: u32,
+    vl: u32,
+) -> Vec<bool> {
+    let elements = vl / size;
+    // A sum of whole numbers, which 32 bits need not hold.
+    let index = (u128::from(base) + u128::from(offset)) % u128::from(elements);
+    let value = source[index as usize * size as usize / 8];
+    let mut result = vec![false; vl as usize / 8];
+    for e in 0..elements {
+        let bit = (e * size / 8) as usize;
+        if governing[bit] {
+            result[bit] = value;
+        }
+    }
+    result
+}
+
+/// The four destinations, in order. Refuses with 7 where an index would lie
+/// past the source's end, which these sizes never cause.
+pub fn luti4(
+    indexes: &[bool],
+    table: &[bool],
+    size: u32,
+    i1: u32,
+    vl: u32,
+) -> Result<Vec<Vec<bool>>, Refusal> {
+    let elements = vl / size;
+    let segments = size / 16;
+    let segment = i1 % segments;
+    let mut destinations = Vec::new();
+    for r in 0..4 {
+        let mut result = vec![false; vl as usize];
+        for e in 0..elements {
+            let position = (4 * segment + r) * elements + e;
+            if position >= vl / 4 {
+                return Err(Refusal::IndexPosition);
+            }
+            let index = element(indexes, position as usize, 4);
+            let entry = element(table, index as usize, 32);
+            let low_bits = entry % (1 << size);
+            set_element(&mut result, e as usize, size as usize, low_bits);
+        }
+        destinations.push(result);
+    }
+    Ok(destinations)
+}
+
+/// Elements of 2·size bits, rounded, shifted and cut to `size` bits in the
+/// even elements; the odd ones are 0.
+pub fn uqrshrnb(source: &[bool], size: u32, shift: u32, vl: u32) -> Vec<bool> {
+    let size = size as usize;
+    let wide = 2 * size;
+    let mut result = vec![false; vl as usize];
+    for e in 0..vl as usize / wide {
+        let x = element(source, e, wide);
+        // At most 2^64 − 1 + 2^31: far from what a u128 holds.
+        let rounded = (x + (1 << (shift - 1))) / (1 << shift);
+        let greatest = (1 << size) - 1;
+        set_element(&mut result, 2 * e, size, rounded.min(greatest));
+        set_element(&mut result, 2 * e + 1, size, 0);
+    }
+    result
+}

@@ -1,0 +1,109 @@
+//! One word executed on a machine.
+
+use crate::access;
+use crate::counter::Counter;
+use crate::decode::decode;
+use crate::instruction::Instruction;
+use crate::machine::Machine;
+use crate::operations::{dup, luti4, pext, uqrshrnb};
+use crate::refusal::Refusal;
+use crate::setting::Setting;
+
+/// Refuses with 1, 2, 3, then 4 or 5, 6, 7, and then changes nothing.
+pub fn step(setting: Setting, word: u32, machine: &mut Machine) -> Result<(), Refusal> {
+    if !setting.is_allowed() {
+        return Err(Refusal::Setting);
+    }
+    if !machine.has_right_lengths() {
+        return Err(Refusal::FileLength);
+    }
+    let instruction = decode(setting, word)?;
+    access::check(instruction.form(), setting, machine.flags)?;
+    // Everything is read and computed before anything is written: the machine
+    // is only lent for reading here.
+    let results = execute(instruction, setting.vl, machine)?;
+    for result in results {
+        match result {
+            Written::Vector(register, bits) => machine.set_vector(register, &bits),
+            Written::Predicate(register, bits) => machine.set_predicate(register, &bits),
+        }
+    }
+    machine.pc = machine.pc.wrapping_add(4);
+    Ok(())
+}
+
+/// A register and the new low bits of it.
+enum Written {
+    Vector(u32, Vec<bool>),
+    Predicate(u32, Vec<bool>),
+}
+
+fn execute(instruction: Instruction, vl: u32, machine: &Machine) -> Result<Vec<Written>, Refusal> {
+    Ok(match instruction {
+        Instruction::Pext1 {
+            size,
+            portion,
+            counter,
+            pd,
+        } => {
+            let counter = Counter::in_register(&machine.predicate(counter, vl));
+            vec![Written::Predicate(pd, pext(counter, size, portion, vl))]
+        }
+        Instruction::Pext2 {
+            size,
+            i1,
+            counter,
+            pd,
+        } => {
+            let counter = Counter::in_register(&machine.predicate(counter, vl));
+            let first = pext(counter, size, 2 * i1, vl);
+            let second = pext(counter, size, 2 * i1 + 1, vl);
+            vec![
+                Written::Predicate(pd, first),
+                Written::Predicate((pd + 1) % 16, second),
+            ]
+        }
+        Instruction::Dup {
+            size,
+            offset,
+            index,
+            pg,
+            pn,
+            pd,
+        } => {
+            let governing = machine.predicate(pg, vl);
+            let source = machine.predicate(pn, vl);
+            let base = machine.index_register(index);
+            let result = dup(&governing, &source, base, offset, size, vl);
+            vec![Written::Predicate(pd, result)]
+        }
+        Instruction::Luti4c { size, i1, zn, zd } => {
+            let results = luti4(&machine.vector(zn, vl), &machine.table(), size, i1, vl)?;
+            spaced(zd, 1, results)
+        }
+        Instruction::Luti4s { size, i1, zn, zd } => {
+            let results = luti4(&machine.vector(zn, vl), &machine.table(), size, i1, vl)?;
+            spaced(zd, 4, results)
+        }
+        Instruction::Uqrshrnb {
+            size,
+            shift,
+            zn,
+            zd,
+        } => {
+            let result = uqrshrnb(&machine.vector(zn, vl), size, shift, vl);
+            vec![Written::Vector(zd, result)]
+        }
+    })
+}
+
+/// Results for registers a fixed distance apart.
+fn spaced(first: u32, distance: u32, results: Vec<Vec<bool>>) -> Vec<Written> {
+    let mut written = Vec::new();
+    let mut register = first;
+    for result in results {
+        written.push(Written::Vector(register, result));
+        register += distance;
+    }
+    written
+}

@@ -1,0 +1,167 @@
+//! Settings, file lengths, words and flags that are refused, alone and
+//! together.
+
+use super::List;
+use crate::instruction::Form;
+use crate::machine::Flags;
+use crate::samples;
+use crate::setting::{ALL_FEATURES, VECTOR_LENGTHS};
+use crate::step_question::StepQuestion;
+use crate::values::{FEATURES_ABOVE, LENGTHS_NOT_ALLOWED, PRINTED_WORDS};
+
+/// The feature numbers under which the access flags are tried: with and
+/// without SVE2p1, SME, SME2 and SME2p1.
+const FEATURES_FOR_FLAGS: [u32; 7] = [3, 4, 7, 12, 28, 29, 31];
+
+impl List {
+    pub(super) fn refusals(&mut self) {
+        self.every_feature_number();
+        self.lengths_not_allowed();
+        self.every_flag();
+        self.wrong_files();
+        self.undefined_words();
+        self.competing_refusals();
+    }
+
+    /// A word of the form with everything else in order.
+    fn any_open(&mut self, form: Form) -> StepQuestion {
+        let vl = self.any_length();
+        let word = samples::matching_word(&mut self.random, form);
+        self.open(vl, word)
+    }
+
+    fn every_feature_number(&mut self) {
+        for features in (0..=ALL_FEATURES).chain(FEATURES_ABOVE) {
+            for form in Form::ALL {
+                let mut question = self.any_open(form);
+                question.setting.features = features;
+                self.add(question);
+            }
+        }
+    }
+
+    fn lengths_not_allowed(&mut self) {
+        for vl in LENGTHS_NOT_ALLOWED {
+            for _ in 0..3 {
+                let form = self.random.pick(&Form::ALL);
+                let mut question = self.any_open(form);
+                question.setting.vl = vl;
+                self.add(question);
+            }
+        }
+    }
+
+    fn every_flag(&mut self) {
+        for features in FEATURES_FOR_FLAGS {
+            for form in Form::ALL {
+                for number in 0..8 {
+                    let mut question = self.any_open(form);
+                    question.setting.features = features;
+                    question.flags = flags(number);
+                    self.add(question);
+                }
+            }
+        }
+        // Only T closed is rare among the others: each lookup at every length,
+        // whether V is open or not.
+        for vl in VECTOR_LENGTHS {
+            for form in [Form::Luti4c, Form::Luti4s] {
+                for number in [2, 3] {
+                    let word = samples::matching_word(&mut self.random, form);
+                    let mut question = self.open(vl, word);
+                    question.flags = flags(number);
+                    self.add(question);
+                }
+            }
+        }
+    }
+
+    /// Each file one byte short, one long, empty, doubled and halved, and with
+    /// the length of another; whatever the word touches.
+    fn wrong_files(&mut self) {
+        for form in Form::ALL {
+            for (file, right) in [(0, 8192), (1, 512), (2, 64)] {
+                let other = [8192, 512, 64][(file + 1) % 3];
+                for length in [right - 1, right + 1, 0, 2 * right, right / 2, other] {
+                    let mut question = self.any_open(form);
+                    set_length(&mut question, file, length);
+                    self.add(question);
+                }
+            }
+            // All wrong at once, and all empty.
+            for lengths in [[8191, 513, 65], [0, 0, 0]] {
+                let mut question = self.any_open(form);
+                for (file, length) in lengths.into_iter().enumerate() {
+                    set_length(&mut question, file, length);
+                }
+                self.add(question);
+            }
+        }
+    }
+
+    fn undefined_words(&mut self) {
+        for word in PRINTED_WORDS {
+            for vl in VECTOR_LENGTHS {
+                let question = self.open(vl, word);
+                self.add(question);
+            }
+        }
+        for _ in 0..60 {
+            let vl = self.any_length();
+            let word = samples::near_miss(&mut self.random);
+            let question = self.open(vl, word);
+            self.add(question);
+        }
+        for _ in 0..20 {
+            let vl = self.any_length();
+            let word = self.random.next_u32();
+            let question = self.open(vl, word);
+            self.add(question);
+        }
+    }
+
+    /// Every set of reasons for a refusal together with every set of flags, so
+    /// that the order among them shows. PEXT is asked without SVE2p1, where it
+    /// needs S.
+    fn competing_refusals(&mut self) {
+        for reasons in 0..8 {
+            for number in 0..8 {
+                for form in [Form::Pext2, Form::Luti4c, self.random.pick(&Form::ALL)] {
+                    let mut question = self.any_open(form);
+                    question.setting.features = 28;
+                    question.flags = flags(number);
+                    if reasons & 1 != 0 {
+                        if self.random.coin() {
+                            question.setting.vl = self.random.pick(&LENGTHS_NOT_ALLOWED);
+                        } else {
+                            question.setting.features = self.random.pick(&FEATURES_ABOVE);
+                        }
+                    }
+                    if reasons & 2 != 0 {
+                        let file = self.random.below(3) as usize;
+                        let length = self.random.below(64);
+                        set_length(&mut question, file, length);
+                    }
+                    if reasons & 4 != 0 {
+                        question.word = samples::near_miss(&mut self.random);
+                    }
+                    self.add(question);
+                }
+            }
+        }
+    }
+}
+
+fn flags(number: u32) -> Flags {
+    Flags::from_number(number).expect("three bits")
+}
+
+/// Files are numbered Z, P, ZT0.
+fn set_length(question: &mut StepQuestion, file: usize, length: u32) {
+    let contents = &mut question.contents;
+    match file {
+        0 => contents.z_length = length,
+        1 => contents.p_length = length,
+        _ => contents.zt_length = length,
+    }
+}

@@ -1,0 +1,136 @@
+//! What a word reads and writes, and whether two words conflict.
+
+use crate::decode::decode;
+use crate::instruction::Instruction;
+use crate::refusal::Refusal;
+use crate::setting::Setting;
+
+/// A register of the table "What a word touches". PC is none of them.
+#[derive(Clone, Copy, Debug, PartialEq, Eq, Hash)]
+pub enum Register {
+    Z(u32),
+    P(u32),
+    /// W12 to W15
+    W(u32),
+    Zt0,
+}
+
+#[derive(Clone, Debug, PartialEq, Eq)]
+pub struct Touch {
+    pub reads: Vec<Register>,
+    pub writes: Vec<Register>,
+}
+
+/// The table's line for an instruction whose fields are in range.
+pub fn touch(instruction: Instruction) -> Touch {
+    use Register::{P, W, Z, Zt0};
+    match instruction {
+        Instruction::Pext1 { counter, pd, .. } => Touch {
+            reads: vec![P(counter)],
+            writes: vec![P(pd)],
+        },
+        Instruction::Pext2 { counter, pd, .. } => Touch {
+            reads: vec![P(counter)],
+            writes: vec![P(pd), P((pd + 1) % 16)],
+        },
+        Instruction::Dup {
+            index, pg, pn, pd, ..
+        } => Touch {
+            reads: vec![P(pg), P(pn), W(index)],
+            writes: vec![P(pd)],
+        },
+        Instruction::Luti4c { zn, zd, .. } => Touch {
+            reads: vec![Z(zn), Zt0],
+            writes: (0..4).map(|r| Z(zd + r)).collect(),
+        },
+        Instruction::Luti4s { zn, zd, .. } => Touch {
+            reads: vec![Z(zn), Zt0],
+            writes: (0..4).map(|r| Z(zd + 4 * r)).collect(),
+        },
+        Instruction::Uqrshrnb { zn, zd, .. } => Touch {
+            reads: vec![Z(zn)],
+            writes: vec![Z(zd)],
+        },
+    }
+}
+
+/// Whether one writes a register that the other reads or writes.
+pub fn touches_conflict(a: &Touch, b: &Touch) -> bool {
+    let meets = |one: &Touch, other: &Touch| {
+        one.writes
+            .iter()
+            .any(|register| other.reads.contains(register) || other.writes.contains(register))
+    };
+    meets(a, b) || meets(b, a)
+}
+
+/// Refuses with 1, then with 3 where either word cannot be read.
+pub fn conflict(setting: Setting, a: u32, b: u32) -> Result<bool, Refusal> {
+    let first = touch(decode(setting, a)?);
+    let second = touch(decode(setting, b)?);
+    Ok(touches_conflict(&first, &second))
+}
+
+#[cfg(test)]
+mod tests {
+    use super::*;
+    use crate::encode::encode;
+    use crate::instruction::Form;
+    use crate::setting::FULL;
+
+    fn word(form: Form, fields: [u32; 6]) -> u32 {
+        encode(FULL, Instruction::from_fields(form, fields)).unwrap()
+    }
+
+    #[test]
+    fn destinations_of_both_layouts() {
+        let consecutive = Instruction::from_fields(Form::Luti4c, [16, 0, 0, 28, 0, 0]);
+        let strided = Instruction::from_fields(Form::Luti4s, [16, 0, 0, 19, 0, 0]);
+        let z = |numbers: [u32; 4]| numbers.map(Register::Z).to_vec();
+        assert_eq!(touch(consecutive).writes, z([28, 29, 30, 31]));
+        assert_eq!(touch(strided).writes, z([19, 23, 27, 31]));
+    }
+
+    #[test]
+    fn readers_alone_do_not_conflict() {
+        // Counter P9, governing P9, source P9; all destinations apart.
+        let pext = word(Form::Pext1, [8, 0, 9, 1, 0, 0]);
+        let dup = word(Form::Dup, [8, 0, 12, 9, 9, 2]);
+        let other_dup = word(Form::Dup, [16, 1, 12, 9, 9, 3]);
+        assert_eq!(conflict(FULL, pext, dup), Ok(false));
+        assert_eq!(conflict(FULL, dup, other_dup), Ok(false));
+        // Z30 and ZT0 are only read.
+        let lookup = word(Form::Luti4c, [16, 0, 30, 0, 0, 0]);
+        let other_lookup = word(Form::Luti4c, [32, 1, 30, 4, 0, 0]);
+        assert_eq!(conflict(FULL, lookup, other_lookup), Ok(false));
+    }
+
+    #[test]
+    fn z3_is_not_p3() {
+        let narrow = word(Form::Uqrshrnb, [8, 1, 3, 3, 0, 0]);
+        let dup = word(Form::Dup, [8, 0, 12, 3, 3, 3]);
+        assert_eq!(conflict(FULL, narrow, dup), Ok(false));
+        assert_eq!(conflict(FULL, narrow, narrow), Ok(true));
+    }
+
+    #[test]
+    fn pairs_wrap_around() {
+        let pair = word(Form::Pext2, [8, 0, 8, 15, 0, 0]);
+        let at_0 = word(Form::Pext1, [8, 0, 9, 0, 0, 0]);
+        let at_14 = word(Form::Pext1, [8, 0, 9, 14, 0, 0]);
+        assert_eq!(conflict(FULL, pair, at_0), Ok(true));
+        assert_eq!(conflict(FULL, at_0, pair), Ok(true));
+        assert_eq!(conflict(FULL, pair, at_14), Ok(false));
+    }
+
+    #[test]
+    fn the_setting_is_asked_first() {
+        let wrong = Setting {
+            vl: 128,
+            features: 2,
+        };
+        assert_eq!(conflict(wrong, 0, 0), Err(Refusal::Setting));
+        assert_eq!(conflict(FULL, 0, 0x2520_7010), Err(Refusal::Undefined));
+        assert_eq!(conflict(FULL, 0x2520_7010, 0), Err(Refusal::Undefined));
+    }
+}

@@ -1,0 +1,159 @@
+//! Whether the conflict questions ask what they are meant to ask, and whether
+//! the answers agree with document 01's table written out once more by masks.
+
+use std::collections::HashSet;
+
+use reference::conflict_questions::generate;
+use reference::decode::decode;
+use reference::instruction::Form;
+use reference::question::Question;
+use reference::setting::{FULL, Setting};
+use reference::text::{QUESTION_BYTES, question_line, read_question};
+
+const SEEDS: [u64; 3] = [1, 77, u64::MAX];
+
+fn pairs(seed: u64) -> Vec<(Setting, u32, u32, [u32; 2])> {
+    generate(seed)
+        .iter()
+        .map(|question| match *question {
+            Question::Conflict {
+                setting,
+                first,
+                second,
+            } => {
+                let answer = question.answer();
+                assert_eq!(answer[2..], [0; 6]);
+                (setting, first, second, [answer[0], answer[1]])
+            }
+            _ => panic!("not about a conflict"),
+        })
+        .collect()
+}
+
+/// What a defined word reads and writes: Z registers in the low 32 bits, P
+/// registers above them, W and ZT0 not at all, since nothing writes them.
+fn masks(word: u32) -> (u64, u64) {
+    let z = |register: u32| 1u64 << (register & 31);
+    let p = |register: u32| 1u64 << (32 + (register & 15));
+    let found = decode(FULL, word).unwrap();
+    match found.form() {
+        Form::Pext1 => (p(8 | word >> 5 & 7), p(word)),
+        Form::Pext2 => (p(8 | word >> 5 & 7), p(word) | p(word + 1)),
+        Form::Dup => (p(word >> 10) | p(word >> 5), p(word)),
+        Form::Luti4c => (z(word >> 5), 15 << (word & 28)),
+        Form::Luti4s => (z(word >> 5), 0x1111 << (word & 19)),
+        Form::Uqrshrnb => (z(word >> 5), z(word)),
+    }
+}
+
+#[test]
+fn answers_agree_with_the_masks() {
+    for seed in SEEDS {
+        for (setting, first, second, [number, value]) in pairs(seed) {
+            if number != 0 {
+                assert_eq!(value, 0);
+                assert_eq!(number == 1, !setting.is_allowed());
+                continue;
+            }
+            let (first_reads, first_writes) = masks(first);
+            let (second_reads, second_writes) = masks(second);
+            let expected = first_writes & (second_reads | second_writes) != 0
+                || second_writes & (first_reads | first_writes) != 0;
+            assert_eq!(value == 1, expected, "{first:08x} {second:08x}");
+        }
+    }
+}
+
+#[test]
+fn both_orders_with_one_answer() {
+    for seed in SEEDS {
+        let pairs = pairs(seed);
+        let asked: HashSet<(Setting, u32, u32, [u32; 2])> = pairs.iter().copied().collect();
+        for &(setting, first, second, answer) in &pairs {
+            assert!(asked.contains(&(setting, second, first, answer)));
+            if first == second && answer[0] == 0 {
+                assert_eq!(answer[1], 1);
+            }
+        }
+    }
+}
+
+#[test]
+fn every_answer_and_every_pair_of_forms() {
+    for seed in SEEDS {
+        let pairs = pairs(seed);
+        for answer in [[0, 0], [0, 1], [1, 0], [3, 0]] {
+            let count = pairs.iter().filter(|pair| pair.3 == answer).count();
+            assert!(count > 90, "{answer:?}: {count}");
+        }
+        let form = |word: u32| decode(FULL, word).map(|i| i.form());
+        for a in Form::ALL {
+            for b in Form::ALL {
+                let answers: HashSet<u32> = pairs
+                    .iter()
+                    .filter(|pair| pair.3[0] == 0 && form(pair.1) == Ok(a) && form(pair.2) == Ok(b))
+                    .map(|pair| pair.3[1])
+                    .collect();
+                let predicates = |form| matches!(form, Form::Pext1 | Form::Pext2 | Form::Dup);
+                let expected: &[u32] = if predicates(a) == predicates(b) {
+                    &[0, 1]
+                } else {
+                    &[0]
+                };
+                let expected = expected.iter().copied().collect();
+                assert_eq!(answers, expected, "{a:?} {b:?}");
+            }
+        }
+    }
+}
+
+/// Registers shared by readers only, and the pair that goes around.
+#[test]
+fn shared_reads_and_the_wrap() {
+    for seed in SEEDS {
+        let pairs = pairs(seed);
+        let mut shared = [0u64; 64];
+        let mut same_w = 0;
+        let mut both_lookups = 0;
+        let mut around = [false; 2];
+        for &(_, first, second, [number, value]) in &pairs {
+            if number != 0 {
+                continue;
+            }
+            let forms = [first, second].map(|word| decode(FULL, word).unwrap().form());
+            let (first_reads, first_writes) = masks(first);
+            let (second_reads, second_writes) = masks(second);
+            if value == 0 {
+                for (register, count) in shared.iter_mut().enumerate() {
+                    *count += (first_reads & second_reads) >> register & 1;
+                }
+                same_w +=
+                    usize::from(forms == [Form::Dup; 2] && first >> 16 & 3 == second >> 16 & 3);
+                both_lookups += usize::from(
+                    forms
+                        .iter()
+                        .all(|f| matches!(f, Form::Luti4c | Form::Luti4s)),
+                );
+            } else if forms[0] == Form::Pext2 && first & 15 == 15 && forms[1] != Form::Pext2 {
+                // Only P0, or only P15, is what they have in common.
+                let other = second_reads | second_writes;
+                around[0] |= other & (1 << 32) != 0 && other & (1 << 47) == 0;
+                around[1] |= other & (1 << 47) != 0 && other & (1 << 32) == 0;
+                assert_eq!(first_writes, 1 << 32 | 1 << 47);
+            }
+        }
+        let vectors: u64 = shared[..32].iter().sum();
+        let predicates: u64 = shared[32..].iter().sum();
+        assert!(vectors >= 30 && predicates >= 60 && same_w >= 8 && both_lookups >= 20);
+        assert_eq!(around, [true; 2]);
+    }
+}
+
+#[test]
+fn questions_survive_the_text() {
+    for question in generate(3) {
+        let line = question_line(&question);
+        let bytes: [u8; QUESTION_BYTES] = line.as_bytes().try_into().unwrap();
+        assert_eq!(read_question(&bytes), Ok(question));
+    }
+}

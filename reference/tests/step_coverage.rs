@@ -1,0 +1,293 @@
+//! Whether the step questions ask what they are meant to ask, for several
+//! seeds. Counters and elements are looked up in the machines themselves.
+
+use std::collections::HashSet;
+
+use reference::decode::decode;
+use reference::instruction::{Form, Instruction};
+use reference::setting::{FULL, VECTOR_LENGTHS, vl_is_allowed};
+use reference::step_question::StepQuestion;
+use reference::step_questions::generate;
+use reference::text::{STEP_QUESTION_BYTES, read_step_question, step_question_line};
+use reference::values::{FEATURES_ABOVE, LENGTHS_NOT_ALLOWED};
+
+const SEEDS: [u64; 2] = [1, u64::MAX];
+
+/// The questions that are done, with their instructions.
+fn done(questions: &[StepQuestion]) -> Vec<(StepQuestion, Instruction)> {
+    questions
+        .iter()
+        .filter(|question| question.answer()[0] == 0)
+        .map(|question| (*question, decode(FULL, question.word).unwrap()))
+        .collect()
+}
+
+/// Form, length, fields of every question that is done.
+type Asked = HashSet<(Form, u32, [u32; 6])>;
+
+fn asked(done: &[(StepQuestion, Instruction)]) -> Asked {
+    done.iter()
+        .map(|(question, found)| (found.form(), question.setting.vl, found.fields()))
+        .collect()
+}
+
+fn any(asked: &Asked, form: Form, vl: Option<u32>, with: impl Fn([u32; 6]) -> bool) -> bool {
+    asked
+        .iter()
+        .any(|&(f, l, fields)| f == form && vl.is_none_or(|vl| vl == l) && with(fields))
+}
+
+#[test]
+fn every_size_length_and_immediate() {
+    for seed in SEEDS {
+        let asked = asked(&done(&generate(seed)));
+        for vl in VECTOR_LENGTHS {
+            let here = |form, with: &dyn Fn([u32; 6]) -> bool| any(&asked, form, Some(vl), with);
+            for size in [8, 16, 32, 64] {
+                for portion in 0..4 {
+                    assert!(here(Form::Pext1, &|f| f[..2] == [size, portion]));
+                }
+                for i1 in 0..2 {
+                    assert!(here(Form::Pext2, &|f| f[..2] == [size, i1]));
+                }
+                for offset in 0..128 / size {
+                    assert!(here(Form::Dup, &|f| f[..2] == [size, offset]));
+                }
+            }
+            for size in [8, 16, 32] {
+                for shift in 1..=size {
+                    assert!(here(Form::Uqrshrnb, &|f| f[..2] == [size, shift]));
+                }
+            }
+            for i1 in 0..2 {
+                for place in 0..8 {
+                    let first = 16 * (place / 4) + place % 4;
+                    assert!(here(Form::Luti4s, &|f| f[1] == i1 && f[3] == first));
+                    for size in [16, 32] {
+                        let wanted = |f: [u32; 6]| f[..2] == [size, i1] && f[3] == 4 * place;
+                        assert!(here(Form::Luti4c, &wanted));
+                    }
+                }
+            }
+        }
+    }
+}
+
+#[test]
+fn overlapping_registers() {
+    for seed in SEEDS {
+        let asked = asked(&done(&generate(seed)));
+        for vl in VECTOR_LENGTHS {
+            let here = |form, with: &dyn Fn([u32; 6]) -> bool| any(&asked, form, Some(vl), with);
+            for counter in 8..16 {
+                assert!(here(Form::Pext1, &|f| f[2..4] == [counter, counter]));
+                assert!(here(Form::Pext2, &|f| f[2..4] == [counter, counter]));
+                assert!(here(Form::Pext2, &|f| f[2..4] == [counter, counter - 1]));
+            }
+            for size in [8, 16, 32, 64] {
+                assert!(here(Form::Pext2, &|f| f[0] == size && f[3] == 14));
+                assert!(here(Form::Pext2, &|f| f[0] == size && f[3] == 15));
+                let dup = |with: &dyn Fn(u32, u32, u32) -> bool| {
+                    here(Form::Dup, &|f| f[0] == size && with(f[3], f[4], f[5]))
+                };
+                assert!(dup(&|pg, pn, pd| pd == pg && pd != pn));
+                assert!(dup(&|pg, pn, pd| pd == pn && pd != pg));
+                assert!(dup(&|pg, pn, pd| pg == pn && pd != pn));
+                assert!(dup(&|pg, pn, pd| pg == pn && pd == pn));
+            }
+            for i1 in 0..2 {
+                for r in 0..4 {
+                    for size in [16, 32] {
+                        let wanted = |f: [u32; 6]| f[..2] == [size, i1] && f[2] == f[3] + r;
+                        assert!(here(Form::Luti4c, &wanted));
+                    }
+                    let wanted = |f: [u32; 6]| f[1] == i1 && f[2] == f[3] + 4 * r;
+                    assert!(here(Form::Luti4s, &wanted));
+                }
+            }
+            for size in [8, 16, 32] {
+                assert!(here(Form::Uqrshrnb, &|f| f[0] == size && f[2] == f[3]));
+            }
+        }
+    }
+}
+
+/// The counter each PEXT question reads, with the bits above it and VL.
+fn counters(done: &[(StepQuestion, Instruction)]) -> Vec<(u32, u32, u16, bool)> {
+    done.iter()
+        .filter(|(_, found)| matches!(found.form(), Form::Pext1 | Form::Pext2))
+        .map(|(question, found)| {
+            let slot = 32 * found.fields()[2] as usize;
+            let p = question.machine().p;
+            let counter = u16::from_le_bytes([p[slot], p[slot + 1]]);
+            let above = p[slot + 2..slot + 32].iter().any(|&byte| byte != 0);
+            (question.setting.vl, found.fields()[0], counter, above)
+        })
+        .collect()
+}
+
+#[test]
+fn every_kind_of_counter() {
+    for seed in SEEDS {
+        let counters = counters(&done(&generate(seed)));
+        for vl in VECTOR_LENGTHS {
+            let m = (vl / 2).trailing_zeros();
+            let ignored = 0x7fff & !((2 << m) - 1) as u16;
+            let has = |with: &dyn Fn(u32, u16) -> bool| {
+                counters
+                    .iter()
+                    .any(|&(l, size, counter, above)| l == vl && above && with(size, counter))
+            };
+            for counter in [0, 0x8000, 0x8001, 0x0001, 0xfff0] {
+                assert!(has(&|_, c| c == counter), "{counter:04x} at {vl}");
+            }
+            for z in 0..4 {
+                let greatest = (1u16 << (m - z)) - 1;
+                for size in [8, 16, 32, 64] {
+                    for inverted in [false, true] {
+                        assert!(has(&|s, c| s == size
+                            && c & 15 != 0
+                            && c.trailing_zeros() == z
+                            && (c >> 15 == 1) == inverted));
+                    }
+                    for wanted in [0, 1, greatest] {
+                        assert!(has(&|s, c| s == size
+                            && c & 15 != 0
+                            && c.trailing_zeros() == z
+                            && (c & !ignored & 0x7fff) >> (z + 1) == wanted));
+                    }
+                }
+            }
+            for bit in m..15 {
+                for inverted in [false, true] {
+                    let wanted = |_: u32, c: u16| c >> bit & 1 == 1 && (c >> 15 == 1) == inverted;
+                    assert!(has(&wanted), "bit {bit} at {vl}");
+                }
+            }
+        }
+    }
+}
+
+/// For each shift of each size the elements around the first that rounds up
+/// and the first that is cut, and the greatest.
+#[test]
+fn every_edge_of_rounding_and_saturation() {
+    for seed in SEEDS {
+        let done = done(&generate(seed));
+        for size in [8, 16, 32] {
+            for shift in 1..=size {
+                let mut elements = HashSet::new();
+                for (question, found) in &done {
+                    let fields = found.fields();
+                    if found.form() != Form::Uqrshrnb || fields[..2] != [size, shift] {
+                        continue;
+                    }
+                    let start = 256 * fields[2] as usize;
+                    let z = question.machine().z;
+                    let source = &z[start..start + question.setting.vl as usize / 8];
+                    for bytes in source.chunks_exact(size as usize / 4) {
+                        let mut element = [0; 16];
+                        element[..bytes.len()].copy_from_slice(bytes);
+                        elements.insert(u128::from_le_bytes(element));
+                    }
+                }
+                let half = 1u128 << (shift - 1);
+                let cut = (1u128 << (size + shift)) - half;
+                let greatest = (1u128 << (2 * size)) - 1;
+                for edge in [0, half - 1, half, cut - 1, cut, greatest] {
+                    assert!(elements.contains(&edge), "{size} {shift} {edge:x}");
+                }
+            }
+        }
+    }
+}
+
+#[test]
+fn index_sums_around_the_wrap() {
+    for seed in SEEDS {
+        let done = done(&generate(seed));
+        for size in [8, 16, 32, 64] {
+            for offset in 0..128 / size {
+                let sums: HashSet<u64> = done
+                    .iter()
+                    .filter(|(_, i)| i.form() == Form::Dup && i.fields()[..2] == [size, offset])
+                    .map(|(question, found)| {
+                        let base = question.w[found.fields()[2] as usize - 12];
+                        u64::from(base) + u64::from(offset)
+                    })
+                    .collect();
+                for sum in [(1 << 32) - 1, (1 << 32) - 1 + u64::from(offset)] {
+                    assert!(sums.contains(&sum), "{size} {offset} {sum:x}");
+                }
+                assert!(offset == 0 || sums.contains(&(1 << 32)));
+            }
+        }
+    }
+}
+
+#[test]
+fn every_feature_number_and_length() {
+    for seed in SEEDS {
+        let questions = generate(seed);
+        for form in Form::ALL {
+            let of_form: Vec<&StepQuestion> = questions
+                .iter()
+                .filter(|q| decode(FULL, q.word).map(|i| i.form()) == Ok(form))
+                .collect();
+            for features in (0..32).chain(FEATURES_ABOVE) {
+                assert!(of_form.iter().any(|q| q.setting.features == features
+                    && vl_is_allowed(q.setting.vl)
+                    && q.flags.number() == 7));
+            }
+            for flags in 0..8 {
+                for features in [3, 12, 28, 31] {
+                    assert!(of_form.iter().any(|q| q.setting.features == features
+                        && q.flags.number() == flags
+                        && vl_is_allowed(q.setting.vl)));
+                }
+            }
+            for pc in [0, 1, u64::MAX - 4, u64::MAX - 3, u64::MAX - 1, u64::MAX] {
+                let asked = of_form.iter().any(|q| q.pc == pc && q.answer()[0] == 0);
+                assert!(asked, "{pc:x}");
+            }
+            for (z, p, zt) in [
+                (8191, 512, 64),
+                (8193, 512, 64),
+                (0, 512, 64),
+                (8192, 511, 64),
+                (8192, 513, 64),
+                (8192, 0, 64),
+                (8192, 512, 63),
+                (8192, 512, 65),
+                (8192, 512, 0),
+                (0, 0, 0),
+            ] {
+                assert!(of_form.iter().any(|q| {
+                    let c = q.contents;
+                    (c.z_length, c.p_length, c.zt_length) == (z, p, zt) && q.answer()[0] == 2
+                }));
+            }
+        }
+        for vl in LENGTHS_NOT_ALLOWED {
+            assert!(questions.iter().any(|q| q.setting.vl == vl));
+        }
+    }
+}
+
+/// Every number is answered, and questions survive being written and read.
+#[test]
+fn numbers_and_text() {
+    for seed in SEEDS {
+        let questions = generate(seed);
+        let mut counts = [0; 10];
+        for question in &questions {
+            counts[question.answer()[0] as usize] += 1;
+            let line = step_question_line(question);
+            let bytes: [u8; STEP_QUESTION_BYTES] = line.as_bytes().try_into().unwrap();
+            assert_eq!(read_step_question(&bytes), Ok(*question));
+        }
+        assert!(counts[0] > 2500);
+        assert!(counts[1..=6].iter().all(|&count| count >= 20), "{counts:?}");
+        assert_eq!(counts[7..], [0, 0, 0]);
+    }
+}

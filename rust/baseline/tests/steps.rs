@@ -1,0 +1,92 @@
+//! Steps against the reference: its questions, all counters, and any words on
+//! any machines.
+
+mod common;
+
+use common::{any_flags, same_step};
+use reference::encode::encode;
+use reference::instruction::{Form, Instruction};
+use reference::machine::Machine;
+use reference::random::Random;
+use reference::samples::{listing_words, matching_word};
+use reference::setting::{ALL_FEATURES, FULL, Setting, VECTOR_LENGTHS};
+use reference::step_questions;
+use reference::stretches::{any_machine, any_setting};
+
+#[test]
+fn step_questions_of_three_seeds() {
+    let mut counts = [0; 10];
+    for seed in [1, 2, 3] {
+        for question in step_questions::generate(seed) {
+            let mut machine = question.machine();
+            let number = same_step(question.setting, question.word, &mut machine);
+            counts[number as usize] += 1;
+        }
+    }
+    assert!(counts[..7].iter().all(|&count| count > 0), "{counts:?}");
+}
+
+/// Words on one machine that goes on, so that each finds what others left;
+/// now and then it is filled anew.
+#[test]
+fn any_words_in_a_row() {
+    let mut random = Random::new(31);
+    let mut machine = any_machine(&mut random);
+    let mut done = 0;
+    for word in listing_words(32, 20_000) {
+        if random.below(20) == 0 {
+            machine = any_machine(&mut random);
+        }
+        let setting = any_setting(&mut random);
+        machine.flags = any_flags(&mut random);
+        machine.w[random.below(4) as usize] = random.next_u32();
+        done += u32::from(same_step(setting, word, &mut machine) == 0);
+    }
+    assert!(done > 4000, "{done}");
+}
+
+/// The same with words that are all defined, under all features and open.
+#[test]
+fn defined_words_at_every_length() {
+    let mut random = Random::new(33);
+    for form in Form::ALL {
+        for vl in VECTOR_LENGTHS {
+            let features = ALL_FEATURES;
+            for _ in 0..400 {
+                let mut machine = any_machine(&mut random);
+                let word = matching_word(&mut random, form);
+                let number = same_step(Setting { vl, features }, word, &mut machine);
+                assert_eq!(number, 0);
+            }
+        }
+    }
+}
+
+/// Every counter there is, each at any length, size and portion, and from a
+/// register with anything above it.
+#[test]
+fn every_counter() {
+    let mut random = Random::new(34);
+    let mut machine = any_machine(&mut random);
+    for counter in 0..=u16::MAX {
+        machine.p[8 * 32..8 * 32 + 2].copy_from_slice(&counter.to_le_bytes());
+        let vl = random.pick(&VECTOR_LENGTHS);
+        let size = random.pick(&[8, 16, 32, 64]);
+        let fields = [size, random.below(4), 8, random.below(8), 0, 0];
+        let word = encode(FULL, Instruction::from_fields(Form::Pext1, fields)).unwrap();
+        let features = ALL_FEATURES;
+        assert_eq!(same_step(Setting { vl, features }, word, &mut machine), 0);
+    }
+}
+
+/// Every setting from a range that holds all allowed ones.
+#[test]
+fn every_setting() {
+    for features in (0..300).chain([65567, 1 << 31, u32::MAX]) {
+        for vl in [0, 64, 127, 128, 192, 256, 512, 1024, 2048, 4096, 65664] {
+            for word in [0x2520_7010, 0xc09a_9000, 0x4528_3800, 0] {
+                same_step(Setting { vl, features }, word, &mut Machine::zero());
+            }
+        }
+    }
+}
