@@ -1,5 +1,5 @@
 -- Fields in range fit their layout and are read back; fields of a word that matches are in range and are written back. Sizes and shifts by tests over all their values.
-use mathlib.Core.Path.{_≡_, refl, ap, ap₂, subst}
+use mathlib.Core.Path.{_≡_, refl, ap, ap₂, subst, sym}
 use mathlib.Core.Bool.{Bool, true, false, not, _&&_, _||_}
 use mathlib.Core.List.{List, [], _∷_}
 use Prim.Native.Nat.{ℕ, zero, suc, _+_, _-_, _*_, _%_, _/_, _^_, _<_, _≤_}
@@ -423,3 +423,7 @@ luti4s-row-writes w e = luti4s-writes (w / 0x10000 % 2) (w / 0x1000 % 4) (w / 32
 pub uqrshrnb-row-writes : RowWrites uqrshrnb
 uqrshrnb-row-writes w e =
     narrow-writes (w / 0x400000 % 2) (w / 0x80000 % 4) (w / 0x10000 % 8) (w / 32 % 32) (w / 1 % 32) (omega arith) (omega arith) (omega arith) (omega arith) (omega arith) e
+
+-- what is known of the instruction in an arm
+pub known-range : {i j : Instruction} → i ≡ j → inRange i ≡ true → inRange j ≡ true
+known-range e h = rw (sym e) h

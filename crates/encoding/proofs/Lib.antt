@@ -3,6 +3,4 @@ pub mod Apart
 pub mod Choice
 pub mod FieldLaws
 pub mod Round
-pub mod Cases
-pub mod WordLaws
 pub mod BoardPoints

@@ -20,7 +20,7 @@ pub struct Listed {
 fn name_index(word: u32) -> usize
     ensures { λ r. ⌜ (r ≡ nameIndex word) × (r < 7) ⌝ }
 {
-    encoding::form(
+    decoder::form(
         Setting {
             vl: 128,
             features: 31,

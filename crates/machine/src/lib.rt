@@ -94,7 +94,7 @@ pub fn step(
             scalars,
         };
     }
-    match encoding::decode(setting, word) {
+    match decoder::decode(setting, word) {
         Decoded::Fields(instruction) => execute(z, p, zt, scalars, setting, instruction),
         Decoded::Refused(answer) => Stepped { answer, scalars },
     }

@@ -1,5 +1,6 @@
 // The setting that a word is read, written or executed under, and the answers with document 01's numbers.
 ghost use mathlib.Core.Path.{_≡_};
+ghost use mathlib.Core.Bool.{_||_};
 ghost use Prim.Native.Nat.{_<_};
 ghost use Rattle.setting.specs.Allowed.{bitOf, hasFeature, lengthAllowed, allowedOf};
 ghost use Rattle.setting.specs.Numbers.{numberOf};
@@ -50,6 +51,13 @@ pub fn has_feature(features: u32, feature: Feature) -> bool
     ensures { λ r. ⌜ r ≡ hasFeature features feature ⌝ }
 {
     (features >> bit(feature)) % 2 == 1
+}
+
+// Whether the feature number has one feature or the other.
+pub fn has_either(features: u32, one: Feature, other: Feature) -> bool
+    ensures { λ r. ⌜ r ≡ (hasFeature features one || hasFeature features other) ⌝ }
+{
+    has_feature(features, one) | has_feature(features, other)
 }
 
 // Whether VL is one of the five.

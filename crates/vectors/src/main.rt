@@ -81,14 +81,14 @@ fn fields(instruction: Instruction) -> [u32; 8] {
 }
 
 fn read(setting: Setting, word: u32) -> [u32; 8] {
-    match encoding::decode(setting, word) {
+    match decoder::decode(setting, word) {
         Decoded::Fields(instruction) => fields(instruction),
         Decoded::Refused(answer) => [setting::number(answer), 0, 0, 0, 0, 0, 0, 0],
     }
 }
 
 fn write(setting: Setting, instruction: Instruction) -> [u32; 8] {
-    let e = encoding::encode(setting, instruction);
+    let e = encoder::encode(setting, instruction);
     let answer = e.answer;
     [setting::number(answer), e.word, 0, 0, 0, 0, 0, 0]
 }

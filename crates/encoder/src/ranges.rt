@@ -1,0 +1,89 @@
+// Whether each field of an instruction is within its range for writing.
+ghost use mathlib.Core.Path.{_≡_};
+ghost use mathlib.Core.Bool.{_&&_};
+ghost use Prim.Native.Nat.{_/_};
+ghost use lib.Dec.{ltb};
+ghost use Rattle.element.specs.Size.{isSize};
+ghost use Rattle.encoding.specs.Instructions.{inRange, pextInRange, dupInRange, lutiInRange, narrowInRange};
+use encoding::Instruction;
+
+fn pext(bound: u32, size: u32, portion: u32, counter: u32, pd: u32) -> bool
+    ensures { λ r. ⌜ r ≡ pextInRange bound size portion counter pd ⌝ }
+{
+    element::is_size(size) & (portion < bound) & ((8 <= counter) & (counter < 16)) & (pd < 16)
+}
+
+// Whether the size is one and the offset below 128 divided by it. A size of 0 divides nothing.
+fn dup_offset(size: u32, offset: u32) -> bool
+    ensures { λ r. ⌜ r ≡ (isSize size && ltb offset (128 / size)) ⌝ }
+{
+    if !element::is_size(size) {
+        return false;
+    }
+    offset < 128 / size
+}
+
+fn dup(size: u32, offset: u32, index: u32, pg: u32, pn: u32, pd: u32) -> bool
+    ensures { λ r. ⌜ r ≡ dupInRange size offset index pg pn pd ⌝ }
+{
+    dup_offset(size, offset) & ((12 <= index) & (index < 16)) & ((pg < 16) & (pn < 16) & (pd < 16))
+}
+
+// What LUTI4's two layouts share; their sizes and destinations are tested before.
+fn luti(size: bool, i1: u32, zn: u32, first: bool) -> bool
+    ensures { λ r. ⌜ r ≡ lutiInRange size i1 zn first ⌝ }
+{
+    size & (i1 < 2) & (zn < 32) & first
+}
+
+fn narrow(size: u32, shift: u32, zn: u32, zd: u32) -> bool
+    ensures { λ r. ⌜ r ≡ narrowInRange size shift zn zd ⌝ }
+{
+    ((size == 8) | (size == 16) | (size == 32))
+        & ((1 <= shift) & (shift <= size))
+        & ((zn < 32) & (zd < 32))
+}
+
+pub(crate) fn in_range(instruction: Instruction) -> bool
+    ensures { λ r. ⌜ r ≡ inRange instruction ⌝ }
+{
+    match instruction {
+        Instruction::Pext1 {
+            size,
+            imm2,
+            counter,
+            pd,
+        } => pext(4, size, imm2, counter, pd),
+        Instruction::Pext2 {
+            size,
+            i1,
+            counter,
+            pd,
+        } => pext(2, size, i1, counter, pd),
+        Instruction::Dup {
+            size,
+            offset,
+            index,
+            pg,
+            pn,
+            pd,
+        } => dup(size, offset, index, pg, pn, pd),
+        Instruction::Luti4c { size, i1, zn, zd } => {
+            luti(
+                (size == 16) | (size == 32),
+                i1,
+                zn,
+                (zd % 4 == 0) & (zd <= 28),
+            )
+        }
+        Instruction::Luti4s { size, i1, zn, zd } => {
+            luti(size == 16, i1, zn, (zd < 4) | ((16 <= zd) & (zd < 20)))
+        }
+        Instruction::Uqrshrnb {
+            size,
+            shift,
+            zn,
+            zd,
+        } => narrow(size, shift, zn, zd),
+    }
+}

@@ -1,0 +1,101 @@
+// The word of an instruction whose fields are in range: its layout's fixed bits and each field at its place.
+ghost use mathlib.Core.Path.{_≡_};
+ghost use mathlib.Core.Bool.{true};
+ghost use Prim.Native.Nat.{_+_, _-_, _*_, _/_, _%_, _<_, _≤_};
+ghost use Rattle.encoding.specs.Layout.{wordOf};
+ghost use Rattle.encoding.specs.Instructions.{rawSize, rawDupBits, inRange, rawOf};
+ghost use Rattle.encoding.specs.Rows.{rowOf};
+use encoding::Instruction;
+
+// The size field of two bits.
+fn raw_size(size: u32) -> u32
+    ensures { λ r. ⌜ r ≡ rawSize size ⌝ }
+{
+    if size == 8 {
+        return 0;
+    }
+    if size == 16 {
+        return 1;
+    }
+    if size == 32 { 2 } else { 3 }
+}
+
+// DUP's i1:tszh:tszl.
+fn dup_bits(size: u32, offset: u32) -> u32
+    requires { ⌜ rawDupBits size offset < 32 ⌝ }
+    ensures { λ r. ⌜ r ≡ rawDupBits size offset ⌝ }
+{
+    offset * (size / 4) + size / 8
+}
+
+fn pext(fixed: u32, raw: u32, portion: u32, counter: u32, pd: u32) -> u32
+    requires { ⌜ (fixed ≤ 0x25207410) × (raw < 4) × (portion < 4) × (8 ≤ counter) × (counter < 16) × (pd < 16) ⌝ }
+    ensures { λ r. ⌜ r ≡ fixed + raw * 0x400000 + portion * 0x100 + (counter - 8) * 32 + pd ⌝ }
+{
+    fixed + raw * 0x400000 + portion * 0x100 + (counter - 8) * 32 + pd
+}
+
+fn dup(bits: u32, index: u32, pg: u32, pn: u32, pd: u32) -> u32
+    requires { ⌜ (bits < 32) × (12 ≤ index) × (index < 16) × (pg < 16) × (pn < 16) × (pd < 16) ⌝ }
+    ensures { λ r. ⌜ r ≡ 0x25204000 + bits / 8 * 0x400000 + bits % 8 * 0x40000 + (index - 12) * 0x10000 + pg * 0x400 + pn * 32 + pd ⌝ }
+{
+    0x25204000
+        + bits / 8 * 0x400000
+        + bits % 8 * 0x40000
+        + (index - 12) * 0x10000
+        + pg * 0x400
+        + pn * 32
+        + pd
+}
+
+// Both layouts of LUTI4 have the first destination's number in the word's low five bits.
+fn luti(fixed: u32, raw: u32, i1: u32, zn: u32, zd: u32) -> u32
+    requires { ⌜ (fixed ≤ 0xc09a8000) × (raw < 4) × (i1 < 2) × (zn < 32) × (zd < 32) ⌝ }
+    ensures { λ r. ⌜ r ≡ fixed + i1 * 0x10000 + raw * 0x1000 + zn * 32 + zd ⌝ }
+{
+    fixed + i1 * 0x10000 + raw * 0x1000 + zn * 32 + zd
+}
+
+fn narrow(size: u32, shift: u32, zn: u32, zd: u32) -> u32
+    requires { ⌜ (size ≤ 32) × (shift ≤ size) × (2 * size - shift < 64) × (zn < 32) × (zd < 32) ⌝ }
+    ensures { λ r. ⌜ r ≡ 0x45203800 + (2 * size - shift) / 32 * 0x400000 + (2 * size - shift) % 32 * 0x10000 + zn * 32 + zd ⌝ }
+{
+    let bits = 2 * size - shift;
+    0x45203800 + bits / 32 * 0x400000 + bits % 32 * 0x10000 + zn * 32 + zd
+}
+
+pub(crate) fn word_of(instruction: Instruction) -> u32
+    requires { ⌜ inRange instruction ≡ true ⌝ }
+    ensures { λ r. ⌜ r ≡ wordOf (rowOf instruction .layout) (rawOf instruction) ⌝ }
+{
+    match instruction {
+        Instruction::Pext1 {
+            size,
+            imm2,
+            counter,
+            pd,
+        } => pext(0x25207010, raw_size(size), imm2, counter, pd),
+        Instruction::Pext2 {
+            size,
+            i1,
+            counter,
+            pd,
+        } => pext(0x25207410, raw_size(size), i1, counter, pd),
+        Instruction::Dup {
+            size,
+            offset,
+            index,
+            pg,
+            pn,
+            pd,
+        } => dup(dup_bits(size, offset), index, pg, pn, pd),
+        Instruction::Luti4c { size, i1, zn, zd } => luti(0xc08a8000, raw_size(size), i1, zn, zd),
+        Instruction::Luti4s { size, i1, zn, zd } => luti(0xc09a8000, raw_size(size), i1, zn, zd),
+        Instruction::Uqrshrnb {
+            size,
+            shift,
+            zn,
+            zd,
+        } => narrow(size, shift, zn, zd),
+    }
+}
