@@ -1,5 +1,5 @@
 -- A text at the start of a buffer of which the rest is open, and a second one right behind it: by the laws of `take` and `drop` at the seam.
-use mathlib.Core.Path.{_≡_, sym, ap, _∙_}
+use mathlib.Core.Path.{_≡_, sym, ap, subst, _∙_}
 use mathlib.Core.List.{List, _++_}
 use Prim.Native.Nat.{ℕ, _+_, _-_, _≤_}
 use native.Mathlib.Omega.{arith}
@@ -76,3 +76,7 @@ began-last {a} {b} {out} {o} {ys} {at} {e} {r} w v k g l m =
     let x = wrote-more {e = e} h v k l m in
     let d : drop (at + r) o ≡ drop (at + r) out = later o out (at + 6) (at + r) (omega arith) (w .rest) in
     record { count = x .count; whole = x .whole ∙ rw (← x .count, d) }
+
+-- the text alone, copied from a buffer that begins with it
+pub wrote-begun : {t a b c : List ℕ} {r k : ℕ} → Begins t a r → Wrote (take r a) b c k → Wrote t b c k
+wrote-begun {b = b} {c = c} {k = k} w v = subst (λ (x : List ℕ). Wrote x b c k) (w .start) v

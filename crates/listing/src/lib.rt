@@ -74,34 +74,6 @@ fn put(text: &[u8], out: &mut [u8]) -> usize
     bytes::copy(text, out)
 }
 
-// One copy for each name: a copy of known length becomes one or two stores.
-fn name(i: usize, out: &mut [u8]) -> usize
-    requires { ⌜ (i < 7) × (length (now out) ≡ 11) ⌝ }
-    ensures { λ r. ⌜ Wrote (nameLine i) (now (out .entry)) (now (out .exit)) r ⌝ }
-{
-    match i {
-        0 => put(b" PEXT1\n", out),
-        1 => put(b" PEXT2\n", out),
-        2 => put(b" DUP\n", out),
-        3 => put(b" LUTI4C\n", out),
-        4 => put(b" LUTI4S\n", out),
-        5 => put(b" UQRSHRNB\n", out),
-        _ => put(b" UNDEFINED\n", out),
-    }
-}
-
-// The line of one record.
-fn line(pairs: &[u8; 512], quad: &[u8], out: &mut [u8]) -> usize
-    requires { ⌜ (Pairs (now pairs)) × (length (now quad) ≡ 4) × (length (now out) ≡ 19) ⌝ }
-    ensures { λ r. ⌜ Wrote (linesOf (now (quad .entry))) (now (out .entry)) (now (out .exit)) r ⌝ }
-{
-    let w = word(quad[0], quad[1], quad[2], quad[3]);
-    hex(pairs, w, &mut out[..8]);
-    let i = name_index(w);
-    let n = name(i, &mut out[8..19]);
-    8 + n
-}
-
 // The line of the bytes left over.
 fn short(left: &[u8], out: &mut [u8]) -> usize
     requires { ⌜ (1 ≤ length (now left)) × (length (now left) ≤ 3) × (length (now out) ≡ 19) ⌝ }
@@ -112,7 +84,7 @@ fn short(left: &[u8], out: &mut [u8]) -> usize
     put(&text, out)
 }
 
-// The row of the name, all 11 bytes of it: no jump on i, unlike `name`, which would be mispredicted.
+// The row of the name, all 11 bytes of it: a jump on i would be mispredicted.
 fn tail(rows: &[u8], lengths: &[usize; 7], i: usize, out: &mut [u8]) -> usize
     requires { ⌜ (Tails (now rows) (now lengths)) × (i < 7) × (length (now out) ≡ 11) ⌝ }
     ensures { λ r. ⌜ (Begins (nameLine i) (now (out .exit)) r) × (5 ≤ r) ⌝ }
@@ -141,23 +113,36 @@ fn wide_line(
     8 + n
 }
 
+// The same, and nothing behind it: the rest of out stays.
+fn line(pairs: &[u8; 512], rows: &[u8], lengths: &[usize; 7], quad: &[u8], out: &mut [u8]) -> usize
+    requires { ⌜ (Pairs (now pairs)) × (Tails (now rows) (now lengths)) × (length (now quad) ≡ 4) × (length (now out) ≡ 19) ⌝ }
+    ensures { λ r. ⌜ Wrote (linesOf (now (quad .entry))) (now (out .entry)) (now (out .exit)) r ⌝ }
+{
+    let mut text = [0u8; 19];
+    let n = wide_line(pairs, rows, lengths, quad, &mut text);
+    put(&text[..n], out)
+}
+
 // The lines of the first n records, and behind them up to six bytes of no meaning: each line covers
 // those of the one before.
-fn wide_lines(pairs: &[u8; 512], input: &[u8], out: &mut [u8], n: usize) -> usize
-    requires { ⌜ (Pairs (now pairs)) × (4 * n ≤ length (now input)) × (19 * n ≤ length (now out)) ⌝ }
+fn wide_lines(
+    pairs: &[u8; 512],
+    rows: &[u8],
+    lengths: &[usize; 7],
+    input: &[u8],
+    out: &mut [u8],
+    n: usize,
+) -> usize
+    requires { ⌜ (Pairs (now pairs)) × (Tails (now rows) (now lengths)) × (4 * n ≤ length (now input)) × (19 * n ≤ length (now out)) ⌝ }
     ensures { λ r. ⌜ (Began (linesOf (take (4 * n) (now (input .entry)))) (now (out .entry)) (now (out .exit)) r) × (r ≤ 19 * n) ⌝ }
 {
-    // What follows the digits, in rows of 16; and how much of each row. Made once, before the loop.
-    let rows =
-        b" PEXT1\n......... PEXT2\n......... DUP\n........... LUTI4C\n........ LUTI4S\n........ UQRSHRNB\n...... UNDEFINED\n.....";
-    let lengths = [7, 7, 5, 8, 8, 10, 11];
     let mut i = 0;
     let mut from = 0;
     let mut at = 0;
     while i < n {
         let next = from + 4;
         let end = at + 19;
-        at += wide_line(pairs, rows, &lengths, &input[from..next], &mut out[at..end]);
+        at += wide_line(pairs, rows, lengths, &input[from..next], &mut out[at..end]);
         from = next;
         i += 1;
     }
@@ -181,11 +166,15 @@ fn records(input: &[u8], out: &mut [u8], n: usize) -> usize
         a0a1a2a3a4a5a6a7a8a9aaabacadaeafb0b1b2b3b4b5b6b7b8b9babbbcbdbebf\
         c0c1c2c3c4c5c6c7c8c9cacbcccdcecfd0d1d2d3d4d5d6d7d8d9dadbdcdddedf\
         e0e1e2e3e4e5e6e7e8e9eaebecedeeeff0f1f2f3f4f5f6f7f8f9fafbfcfdfeff";
+    // What follows the digits, in rows of 16; and how much of each row.
+    let rows =
+        b" PEXT1\n......... PEXT2\n......... DUP\n........... LUTI4C\n........ LUTI4S\n........ UQRSHRNB\n...... UNDEFINED\n.....";
+    let lengths = [7, 7, 5, 8, 8, 10, 11];
     let from = 4 * (n - 1);
     let next = 4 * n;
-    let at = wide_lines(pairs, input, out, n - 1);
+    let at = wide_lines(pairs, rows, &lengths, input, out, n - 1);
     let end = at + 19;
-    let more = line(pairs, &input[from..next], &mut out[at..end]);
+    let more = line(pairs, rows, &lengths, &input[from..next], &mut out[at..end]);
     at + more
 }
 

@@ -11,7 +11,7 @@ use Rattle.listing.proofs.Over.{wrote-fits, part-fits}
 use Rattle.listing.proofs.Begins.{began-last}
 use Rattle.listing.proofs.Append.{lines-next}
 use Rattle.listing.proofs.Parts.{line-long}
-use Rattle.listing.proofs.Tables.{pairs-right}
+use Rattle.listing.proofs.Tables.{pairs-right, tails-right}
 use borrow.Author.Needs.{needs}
 use Rattle.listing.proofs.records.Statement.{statement}
 use Rattle.listing.proofs.records.Tie as tie
@@ -54,7 +54,7 @@ sub-wide-lines : tie.Need-sub-wide-lines
 sub-wide-lines c = search needs
 
 wide-lines-requires : tie.Need-wide-lines-requires
-wide-lines-requires c κs = (pairs-right _ tt tt, omega arith, omega arith)
+wide-lines-requires c κs = (pairs-right _ tt tt, tails-right _ _ refl tt tt tt, omega arith, omega arith)
 
 add-end : tie.Need-add-end
 add-end c = search needs
@@ -79,11 +79,11 @@ part-line-end-2 c = search needs
 
 line-requires : tie.Need-line-requires
 line-requires c κs =
-    (pairs-right _ tt tt, simp (length-take, length-drop) (omega arith), simp (length-take, length-drop) (omega arith))
+    (pairs-right _ tt tt, tails-right _ _ refl tt tt tt, simp (length-take, length-drop) (omega arith), simp (length-take, length-drop) (omega arith))
 
 add-result : tie.Need-add-result
 add-result c =
-    let l = c .before .before .line in omega (arith, simp length-take at (wrote-fits (l .ensures) (l .kept .1 .1 .0)))
+    let l = c .before .before .line in omega (arith, simp length-take at (wrote-fits (l .ensures) (l .kept .1 .1 .1 .1 .0)))
 
 same-length : tie.Need-same-length
 same-length c = search needs
@@ -91,16 +91,15 @@ same-length c = search needs
 returns-2 : tie.Need-returns-2
 returns-2 c =
     let l = c .before .before in
-    let o = l .before .before .before .before in
-    let w = o .before in
-    let i = w .before .before .before in
+    let w = l .before .before .before .before .before .before .before in
+    let i = w .before .before .before .before .before .before in
     let s = i .before .before .before in
     last (s .args .input .now) (s .args .out .now) (s .args .n) (i .if1 .left) (s .pre .0) (s .pre .1)
-    (w .wide-lines .kept .1 .1 .0)
+    (w .wide-lines .kept .1 .1 .1 .1 .0)
     (w .wide-lines .ensures .0)
     (w .wide-lines .ensures .1)
     (l .line .ensures)
-    (l .line .kept .1 .1 .0)
+    (l .line .kept .1 .1 .1 .1 .0)
 
 pub records-spec : {M : Type 1} → statement M
 records-spec =

@@ -7,7 +7,6 @@ use lib.ListN.{length, take, length-take, length-drop}
 use Rattle.listing.specs.Lines.{linesOf}
 use Rattle.listing.specs.Buffer.{Began}
 use Rattle.listing.proofs.Begins.{begins-within, began-more}
-use Rattle.listing.proofs.Tables.{tails-right}
 use Rattle.listing.proofs.Append.{lines-next}
 use Rattle.listing.proofs.wide_lines.Statement.{statement}
 use Rattle.listing.proofs.wide_lines.Tie as tie
@@ -21,10 +20,10 @@ record Listing (input out₀ : List ℕ) (n : ℕ) (out : List ℕ) (i from at :
   text : Began (linesOf (take from input)) out₀ out at
 
 abbrev Inv-loop : tie.InvT-loop
-Inv-loop pairs input out₀ n rows lengths i₀ from₀ at₀ out i from at = Listing input out₀ n out i from at
+Inv-loop pairs rows lengths input out₀ n i₀ from₀ at₀ out i from at = Listing input out₀ n out i from at
 
 abbrev μ-loop : tie.MeasureT-loop
-μ-loop pairs input out₀ n rows lengths i₀ from₀ at₀ out i from at = n - i
+μ-loop pairs rows lengths input out₀ n i₀ from₀ at₀ out i from at = n - i
 
 loop-holds : tie.Need-loop-holds Inv-loop μ-loop
 unfolding linesOf
@@ -57,7 +56,7 @@ part-wide-line-end-2 c = omega arith
 
 wide-line-requires : tie.Need-wide-line-requires Inv-loop μ-loop
 wide-line-requires c κs =
-    (c .before .before .before .before .before .before .before .before .before .pre .0, tails-right _ _ refl tt tt tt, simp (length-take, length-drop) (omega arith), simp (length-take, length-drop) (omega arith))
+    let s = c .before .before .before .before .before .before .before in (s .pre .0, s .pre .1, simp (length-take, length-drop) (omega arith), simp (length-take, length-drop) (omega arith))
 
 add-at : tie.Need-add-at Inv-loop μ-loop
 add-at c =
@@ -72,7 +71,7 @@ loop-less c = omega arith
 loop-again : tie.Need-loop-again Inv-loop μ-loop
 loop-again c =
     let r = c .before .before .wide-line in
-    let t = c .before .before .before .before .before .before .before .before in
+    let t = c .before .before .before .before .before .before in
     let l = t .loop in
     let s = t .before .before .before .before in
     record {
