@@ -9,7 +9,8 @@ use borrow.Author.Tests.{lt-ltb, le-ltb, eq-eqb, ne-eqb}
 use Rattle.element.specs.Size.{pick}
 use Rattle.element.specs.Contents.{gather}
 use Rattle.element.specs.Units.{patternOf}
-use Rattle.element.proofs.Below.{all, both, below}
+use Rattle.element.specs.Every.{all}
+use Rattle.element.proofs.Below.{both, below}
 use Rattle.counter.specs.Strips.{edgeBit, stepped}
 
 -- the low d bits, as the code has them

@@ -10,7 +10,8 @@ use lib.Pow.{pow-pos}
 use borrow.Author.Tests.{lt-ltb, le-ltb, eq-eqb, ne-eqb}
 use Rattle.element.specs.Size.{pick}
 use Rattle.element.specs.Contents.{fill, gather, octet, row}
-use Rattle.element.proofs.Below.{all, below}
+use Rattle.element.specs.Every.{all}
+use Rattle.element.proofs.Below.{below}
 use Rattle.element.proofs.Units.{unit, low-bits, unit-of}
 use Rattle.element.proofs.Filling.{gather-same, same}
 use Rattle.counter.specs.Counter.{zeros, countOf, inverts, flipped, elementOf, expansionBit}

@@ -1,21 +1,24 @@
 -- What holds of each number below a bound, by one test that is computed over all of them.
-use mathlib.Core.Path.{_≡_, sym, subst}
+use mathlib.Core.Path.{_≡_, refl, sym, subst}
 use mathlib.Core.Bool.{Bool, true, false, _&&_}
 use mathlib.Core.Logic.{⊎-elim}
 use Prim.Native.Nat.{ℕ, zero, suc, _<_}
 use native.Mathlib.Nat.{eq-or-lt-of-le, le-of-suc-le-suc, not-suc-le-zero}
+use native.Mathlib.Omega.{arith}
 use lib.Dec.{T}
+use Rattle.element.specs.Every.{all}
 
 pub both : (a b : Bool) → T (a && b) → T a × T b
 both true b t = (tt, t)
 both false b t = absurd t
-
-abbrev pub all : (ℕ → Bool) → ℕ → Bool
-all f zero = true
-all f (suc n) = f n && all f n
 
 pub below : (f : ℕ → Bool) (n : ℕ) → T (all f n) → (k : ℕ) → k < n → T (f k)
 below f zero t k h = absurd (not-suc-le-zero h)
 below f (suc n) t k h =
     let p = both (f n) (all f n) t in
     ⊎-elim (λ (e : k ≡ n). subst (λ (m : ℕ). T (f m)) (sym e) (p .0)) (λ (l : k < n). below f n (p .1) k l) (eq-or-lt-of-le (le-of-suc-le-suc h))
+
+-- and the other way
+pub all-true : (f : ℕ → Bool) (n : ℕ) → ((k : ℕ) → k < n → f k ≡ true) → all f n ≡ true
+all-true f zero h = refl
+all-true f (suc n) h = rw (h n (omega arith), all-true f n (λ (k : ℕ) (l : k < n). h k (omega arith)))

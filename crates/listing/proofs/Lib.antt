@@ -1,5 +1,4 @@
 -- The laws that several proofs cite.
-pub mod Spelled
 pub mod Over
 pub mod Begins
 pub mod Append

@@ -8,7 +8,7 @@ use Rattle.listing.specs.Text.{hexDigits}
 use Rattle.listing.specs.Name.{nameIndex}
 use Rattle.listing.specs.Lines.{nameLine, wordOf, lineOf, linesOf}
 use Rattle.listing.specs.Buffer.{Wrote}
-use Rattle.listing.proofs.Spelled.{spelled}
+use Rattle.element.proofs.Spelled.{spelled}
 
 abbrev pub quadWord : List ℕ → ℕ
 quadWord q = wordOf (getD q 0 0) (getD q 1 0) (getD q 2 0) (getD q 3 0)

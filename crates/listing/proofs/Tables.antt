@@ -6,7 +6,8 @@ use Prim.Native.Nat.{ℕ, _+_, _-_, _*_, _/_, _%_, _≤_, _<_}
 use native.Mathlib.Omega.{arith}
 use lib.Dec.{T, eqb, ltb, eqb→eq, ltb→lt}
 use lib.ListN.{length, getD, take, drop}
-use Rattle.element.proofs.Below.{both, all, below}
+use Rattle.element.specs.Every.{all}
+use Rattle.element.proofs.Below.{both, below}
 use Rattle.listing.specs.Text.{glyphOf}
 use Rattle.listing.specs.Lines.{nameLine}
 use Rattle.listing.specs.Buffer.{Begins, Wrote}

@@ -2,13 +2,14 @@
 use mathlib.Core.Bool.{Bool, _&&_}
 use mathlib.Core.List.{List, [], _∷_}
 use Prim.Native.Nat.{ℕ, zero, suc, _/_, _%_}
-use lib.Dec.{eqb, leb}
+use lib.Dec.{eqb, ltb}
 use lib.ListN.{length}
 use Rattle.setting.specs.Allowed.{allowedOf, hasFeature}
 use Rattle.setting.specs.Numbers.{Outcome, accept, refuse, numberOf}
 use Rattle.setting.specs.declared.Feature.the-variants.{Sve2p1}
 use Rattle.setting.specs.declared.Setting.{Setting}
 use Rattle.element.specs.Size.{pick}
+use Rattle.element.specs.Every.{all}
 use Rattle.order.specs.Banks.{Register}
 use Rattle.order.specs.Touch.{perform, fromReads}
 use Rattle.encoding.specs.Decode.{decodeOf}
@@ -37,9 +38,9 @@ firstFailed (n ∷ ns) = pick (n .holds) (firstFailed ns) (n .number)
 abbrev pub need : ℕ → Bool → Need
 need n b = record { number = n; holds = b }
 
--- 7: every index position of LUTI4 is below VL/4; the greatest is the last element's of destination 3
-abbrev pub positionsInside : ℕ → ℕ → ℕ → Bool
-positionsInside vl size i1 = leb (positionOf size vl 4 (i1 % (size / 16)) 3 (vl / size)) (vl / 4)
+-- 7: no index position of LUTI4 is at or past VL/4, of any element of its four destinations
+unfoldable pub positionsInside : ℕ → ℕ → ℕ → Bool
+positionsInside vl size i1 = all (λ r. all (λ e. ltb (positionOf size vl 4 (i1 % (size / 16)) r e) (vl / 4)) (vl / size)) 4
 
 -- the column "Access", and 7
 abbrev pub needsOf : Setting → Instruction → Scalars → List Need

@@ -1,4 +1,3 @@
-pub mod Spelling
 pub mod Widths
 pub mod Slots
 pub mod Tests

@@ -6,7 +6,7 @@ use native.Mathlib.Nat.{div-one, div-div-eq-div-mul}
 use native.Mathlib.Omega.{arith}
 use lib.ListN.{length, set, length-set}
 use Rattle.listing.specs.Text.{glyphOf, hexDigits}
-use Rattle.listing.proofs.Spelled.{spelled}
+use Rattle.element.proofs.Spelled.{spelled}
 use borrow.Author.Needs.{needs}
 use Rattle.listing.proofs.hex.Statement.{statement}
 use Rattle.listing.proofs.hex.Tie as tie
