@@ -1,21 +1,23 @@
 // Answers the stored questions of the independent reference, one line each.
 //
-// A question is a line of nine numbers or more, the first of them its kind. Each module has some kinds: it reads what
-// numbers of the question are left, and writes the answer.
+// A question is a line of nine numbers or more, each of eight hex digits, and the first is its kind. A module has some
+// kinds and says at its head what their questions and answers are: it is given the nine numbers, reads what more the
+// question has, and writes the answer.
 mod forms;
 mod generator;
 mod numbers;
 mod steps;
 
-// One question and its answer; false where the input ends.
+// One question and its answer; false where the input ends, or has a kind that no module answers.
 fn answer_next() -> bool {
     let mut question = [0u32; 9];
     if !numbers::read(&mut question) {
         return false;
     }
     match question[0] {
+        0..=6 => forms::answer(&question),
         7 => steps::answer(&question),
-        _ => forms::answer(&question),
+        _ => false,
     }
 }
 

@@ -112,6 +112,7 @@ fn stepped(
     machine::step(z, p, zt, scalars_of(first, rest), setting, first[3])
 }
 
+// What is left is told by hashes, so that an answer is a short line.
 fn step(
     first: &[u32; 9],
     rest: &[u32; 11],
@@ -123,6 +124,7 @@ fn step(
     told(left, hash(z), hash(p), hash(zt))
 }
 
+// A step on as much of each buffer as the question has of the file.
 fn step_at_lengths(
     first: &[u32; 9],
     rest: &[u32; 11],
