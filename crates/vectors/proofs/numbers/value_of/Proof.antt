@@ -1,26 +1,20 @@
--- `number` is safe and ends: i is at most 8, so each digit lies in its place of the line.
+-- `value_of` is safe and ends: i is at most 8, and a digit is added to less than 2^28 times 16.
 use Prim.Native.Nat.{_≤_, _-_}
 use borrow.Author.Needs.{needs}
-use Rattle.vectors.proofs.number.Statement.{statement}
-use Rattle.vectors.proofs.number.Tie as tie
+use Rattle.vectors.proofs.numbers.value_of.Statement.{statement}
+use Rattle.vectors.proofs.numbers.value_of.Tie as tie
 
 abbrev Inv-loop : tie.InvT-loop
-Inv-loop line place value₀ i₀ value i = i ≤ 8
+Inv-loop text value₀ i₀ value i = i ≤ 8
 
 abbrev μ-loop : tie.MeasureT-loop
-μ-loop line place value₀ i₀ value i = 8 - i
+μ-loop text value₀ i₀ value i = 8 - i
 
 loop-holds : tie.Need-loop-holds Inv-loop μ-loop
 loop-holds c = search needs
 
 mul-value : tie.Need-mul-value Inv-loop μ-loop
 mul-value c = search needs
-
-mul-digit-of : tie.Need-mul-digit-of Inv-loop μ-loop
-mul-digit-of c = search needs
-
-add-digit-of : tie.Need-add-digit-of Inv-loop μ-loop
-add-digit-of c = search needs
 
 element-copy-out-digit-of : tie.Need-element-copy-out-digit-of Inv-loop μ-loop
 element-copy-out-digit-of c = search needs
@@ -43,16 +37,14 @@ loop-again c = search needs
 returns : tie.Need-returns Inv-loop μ-loop
 returns c = search needs
 
-pub number-spec : {M : Type 1} → statement M
-number-spec =
+pub value-of-spec : {M : Type 1} → statement M
+value-of-spec =
     tie.close
     (tie.spec
     Inv-loop
     μ-loop
     loop-holds
     mul-value
-    mul-digit-of
-    add-digit-of
     element-copy-out-digit-of
     digit-of-requires
     add-value
