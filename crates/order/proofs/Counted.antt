@@ -119,4 +119,3 @@ length-same (q ∷ qs) ps s =
   where
     held : 0 < count q ps
     held = omega (arith, s q, count-same q qs)
-

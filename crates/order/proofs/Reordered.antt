@@ -99,4 +99,3 @@ module _ {M : Type 0} (refusal : ℕ → M → ℕ) (exec : ℕ → M → M) (co
 
       whole : steps refusal exec (map (λ i. getD words i 0) (upto 0 n)) 0 m ≡ steps refusal exec words 0 m
       whole = ap (λ (ws : List ℕ). steps refusal exec ws 0 m) (map-upto words 0 n (zero-add n))
-

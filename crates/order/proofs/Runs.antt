@@ -38,4 +38,3 @@ module _ {M : Type 0} (refusal : ℕ → M → ℕ) (exec : ℕ → M → M) whe
   after-first w xs ys n m e f =
       let r : refusal w m ≡ 0 = head-taken w ys n m e in
       taken w xs n m r ∙ f (tail-taken w ys n m e) ∙ sym (taken w ys n m r)
-

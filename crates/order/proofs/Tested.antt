@@ -102,4 +102,4 @@ module _ (conflict : ℕ → ℕ → Bool) (words order : List ℕ) where
   permits-whole P =
       all-hold (λ j. allBelow (λ i. keeps conflict words order i j) j) (length words)
       (λ j k. all-hold (λ i. keeps conflict words order i j) j
-        (λ i l. or-follows (conflict (getD words i 0) (getD words j 0)) _ (λ e. lt-ltb (place i order) (place j order) (P .first i j l k e))))
+      (λ i l. or-follows (conflict (getD words i 0) (getD words j 0)) _ (λ e. lt-ltb (place i order) (place j order) (P .first i j l k e))))
