@@ -5,7 +5,7 @@ use Prim.Native.Nat.{ℕ, zero, suc, _+_}
 use native.Mathlib.Nat.{add-zero}
 use native.Mathlib.Omega.{arith}
 use lib.ListN.{length}
-use Rattle.order.specs.Steps.{Ended, steps}
+use Rattle.order.specs.Steps.{steps}
 
 module _ {M : Type 0} (refusal : ℕ → M → ℕ) (exec : ℕ → M → M) where
   -- a word that is not refused is done; the first word of an accepted run is such, and the rest is accepted

@@ -1,16 +1,16 @@
 -- The tests are the definitions, in both directions: a test over all positions is a fact of each, and an order as long as the stretch that lists each position has no room for another entry.
 use mathlib.Core.Path.{_≡_, refl, sym, _∙_, ap}
-use mathlib.Core.Bool.{Bool, true, false, false≢true, not, _&&_, _||_}
+use mathlib.Core.Bool.{Bool, true, false, false≢true, not, _||_}
 use mathlib.Core.Logic.{⊎-elim}
 use mathlib.Core.List.{List, [], _∷_}
 use Prim.Native.Nat.{ℕ, zero, suc, _≤_, _<_}
 use native.Mathlib.Nat.{eq-or-lt-of-le, le-of-suc-le-suc, not-suc-le-zero}
 use native.Mathlib.Omega.{arith}
 use native.Mathlib.Decide.{decLt}
-use lib.Dec.{eqb, ltb}
+use lib.Dec.{eqb}
 use lib.ListN.{length, getD}
-use borrow.Author.Tests.{eqb-true, eq-eqb, ltb-true, lt-ltb, not-true}
-use Rattle.element.proofs.Tests.{both-yes, one-yes}
+use borrow.Author.Tests.{eqb-true, eq-eqb, ltb-true, lt-ltb}
+use Rattle.element.proofs.Tests.{both-yes}
 use Rattle.order.specs.Rearranged.{bump, count, place, Rearrangement, Permitted}
 use Rattle.order.specs.Tested.{allBelow, rearranges, keeps, permits}
 use Rattle.order.proofs.Counted.{count-same, remove, count-remove, length-remove}

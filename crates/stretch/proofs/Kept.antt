@@ -22,7 +22,7 @@ use Rattle.order.proofs.Changes.{read-change}
 use Rattle.order.proofs.Touches.{independent}
 use Rattle.part.proofs.Tests.{lengths-of}
 use Rattle.machine.specs.Machine.{Machine, Flags, gap, width, files, get, put, next, flagsOf}
-use Rattle.machine.specs.Step.{sized, firstFailed, needsOf, reads, writes, gives, verdict, refusalOf, execOf}
+use Rattle.machine.specs.Step.{sized, reads, writes, gives, verdict, refusalOf, execOf}
 use Rattle.machine.specs.declared.Scalars.{Scalars}
 use Rattle.machine.proofs.Registers.{registers}
 use Rattle.stretch.specs.Conflict.{conflict}

@@ -1,5 +1,5 @@
 -- The answer yes stands for a permission, and a permission is answered yes: `order`'s tests are its definitions, and a refusal is no yes.
-use mathlib.Core.Path.{_≡_, refl, _∙_, ap}
+use mathlib.Core.Path.{_≡_, refl, ap}
 use mathlib.Core.Bool.{Bool, true, _&&_}
 use mathlib.Core.List.{List}
 use Prim.Native.Nat.{ℕ, zero, suc}
@@ -8,7 +8,7 @@ use lib.Dec.{leb}
 use lib.ListN.{length, getD}
 use borrow.Author.Tests.{leb-true, le-leb}
 use Rattle.setting.specs.Allowed.{allowedOf}
-use Rattle.setting.specs.Numbers.{Outcome, accept}
+use Rattle.setting.specs.Numbers.{accept}
 use Rattle.setting.specs.declared.Setting.{Setting}
 use Rattle.element.proofs.Tests.{both-yes}
 use Rattle.order.specs.Tested.{rearranges, permits}

@@ -13,10 +13,13 @@ use Rattle.machine.specs.Step.{sized, firstFailed, need, refusalOf, execOf}
 abbrev pub refusedBefore : Setting → List ℕ → Machine → ℕ
 refusedBefore s words m = firstFailed (need 1 (allowedOf s) ∷ need 2 (sized m) ∷ need 8 (leb (length words) 256) ∷ [])
 
--- refused with 0 words done and the machine as it was, or stepped
+-- a run that is refused with n before any word has done 0 words and leaves the machine as it was
+abbrev pub undone : ℕ → Machine → Ended Machine
+undone n m = record { answer = n; done = 0; left = m }
+
 abbrev pub begun : ℕ → Setting → List ℕ → Machine → Ended Machine
 begun zero s words m = steps (refusalOf s) (execOf s) words 0 m
-begun (suc k) s words m = record { answer = suc k; done = 0; left = m }
+begun (suc k) s words m = undone (suc k) m
 
 unfoldable pub runOf : Setting → List ℕ → Machine → Ended Machine
 runOf s words m = begun (refusedBefore s words m) s words m
