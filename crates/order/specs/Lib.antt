@@ -1,2 +1,5 @@
-pub mod Touch
 pub mod Banks
+pub mod Touch
+pub mod Rearranged
+pub mod Tested
+pub mod Steps

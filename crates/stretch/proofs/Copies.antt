@@ -1,0 +1,41 @@
+-- Two copies of a word conflict: a word that writes something was read, and every form of the table has a register that it writes.
+use mathlib.Core.Path.{_≡_, refl, ap}
+use mathlib.Core.Bool.{true, false, false≢true}
+use mathlib.Core.List.{[]}
+use Prim.Native.Nat.{_<_}
+use native.Mathlib.Omega.{arith}
+use lib.ListN.{length}
+use borrow.Author.Tests.{eq-eqb}
+use Rattle.setting.specs.Numbers.{Outcome, accept, refuse}
+use Rattle.encoding.specs.Decode.{decodeOf}
+use Rattle.encoding.specs.declared.Instruction.{Instruction}
+use Rattle.encoding.specs.declared.Instruction.the-variants.{Pext1, Pext2, Dup, Luti4c, Luti4s, Uqrshrnb}
+use Rattle.order.specs.Banks.{Register, sameRegister}
+use Rattle.order.proofs.Touches.{copies-conflict}
+use Rattle.machine.specs.Touched.{writesOf}
+use Rattle.machine.specs.Step.{overWord, reads, writes}
+use Rattle.stretch.specs.Conflict.{conflict, ifRead, conflictOf}
+use Rattle.stretch.specs.Claims.{CopiesConflict, EachWrites}
+
+self : (r : Register) → sameRegister r r ≡ true
+self r = rw (eq-eqb (r .bank) (r .bank) refl, eq-eqb (r .at) (r .at) refl)
+
+pub copies : CopiesConflict
+unfolding conflictOf
+copies s w h = go (decodeOf s w) h
+  where
+    go : (d : Outcome Instruction) → 0 < length (overWord [] writesOf d) → ifRead d (ifRead d (accept (conflict s w w))) ≡ accept true
+    go (accept i) k = ap accept (copies-conflict sameRegister self (reads s) (writes s) w h)
+    go (refuse n) k = absurd (omega arith)
+
+pub each-writes : EachWrites
+each-writes s w h = go (decodeOf s w) h
+  where
+    go : (d : Outcome Instruction) → overWord false (λ i. true) d ≡ true → 0 < length (overWord [] writesOf d)
+    go (accept (Pext1 size imm2 counter pd)) k = omega arith
+    go (accept (Pext2 size i1 counter pd)) k = omega arith
+    go (accept (Dup size offset index pg pn pd)) k = omega arith
+    go (accept (Luti4c size i1 zn zd)) k = omega arith
+    go (accept (Luti4s size i1 zn zd)) k = omega arith
+    go (accept (Uqrshrnb size shift zn zd)) k = omega arith
+    go (refuse n) k = absurd (false≢true k)

@@ -1,0 +1,5 @@
+pub mod Kept
+pub mod Passed
+pub mod Orders
+pub mod Copies
+pub mod Permissions

@@ -1,0 +1,4 @@
+pub mod Run
+pub mod Conflict
+pub mod Permission
+pub mod Claims

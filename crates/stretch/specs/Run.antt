@@ -1,0 +1,25 @@
+-- Document 01, "A run takes a stretch" and "for a run 1, 2, 8 before any word, also for an empty stretch": what a run answers and leaves.
+use mathlib.Core.List.{List, [], _∷_}
+use Prim.Native.Nat.{ℕ, zero, suc}
+use lib.Dec.{leb}
+use lib.ListN.{length}
+use Rattle.setting.specs.Allowed.{allowedOf}
+use Rattle.setting.specs.declared.Setting.{Setting}
+use Rattle.order.specs.Steps.{Ended, steps}
+use Rattle.machine.specs.Machine.{Machine}
+use Rattle.machine.specs.Step.{sized, firstFailed, need, refusalOf, execOf}
+
+-- the number that a run is refused with before any word, or 0
+abbrev pub refusedBefore : Setting → List ℕ → Machine → ℕ
+refusedBefore s words m = firstFailed (need 1 (allowedOf s) ∷ need 2 (sized m) ∷ need 8 (leb (length words) 256) ∷ [])
+
+-- a run that is refused with n before any word has done 0 words and leaves the machine as it was
+abbrev pub undone : ℕ → Machine → Ended Machine
+undone n m = record { answer = n; done = 0; left = m }
+
+abbrev pub begun : ℕ → Setting → List ℕ → Machine → Ended Machine
+begun zero s words m = steps (refusalOf s) (execOf s) words 0 m
+begun (suc k) s words m = undone (suc k) m
+
+unfoldable pub runOf : Setting → List ℕ → Machine → Ended Machine
+runOf s words m = begun (refusedBefore s words m) s words m
