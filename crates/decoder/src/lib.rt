@@ -17,7 +17,7 @@ pub fn decode(setting: Setting, word: u32) -> Decoded
     if !setting::allowed(setting) {
         return Decoded::Refused(Answer::NotAllowed);
     }
-    let row = layouts::row_of(features, word);
+    let row = layouts::row_by_turns(features, word);
     match row {
         0 => Decoded::Fields(fields::pext1(word)),
         1 => Decoded::Fields(fields::pext2(word)),
