@@ -1,13 +1,13 @@
-//! A plain fast interpreter of document 01's words, to compare the proved one
-//! with. Nothing here is proved; it is what one writes first for speed.
+//! A tuned interpreter of document 01's words, the second yardstick beside the
+//! plain one in `baseline`. Nothing here is proved. It works by 64-bit lanes,
+//! index bytes and masks where the plain one goes element by element.
 //!
 //! - [`setting`]: allowed vector lengths and feature numbers
 //! - [`word`]: from a word to an operation, by mask and value
 //! - [`predicates`], [`vectors`]: the operations on lent slots
 //! - [`run`](mod@run): one word, and a stretch of them
 //!
-//! Answers are document 01's numbers. The binary `fastlist` beside it has its
-//! own pages and shares nothing with it.
+//! Answers are document 01's numbers.
 
 #![forbid(unsafe_code)]
 

@@ -1,8 +1,6 @@
 //! Runs against the reference.
 
-mod common;
-
-use common::{any_flags, same_run};
+use super::{any_flags, same_run};
 use reference::machine::Machine;
 use reference::random::Random;
 use reference::setting::{FULL, Setting};

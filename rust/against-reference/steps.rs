@@ -1,9 +1,7 @@
 //! Steps against the reference: its questions, all counters, and any words on
 //! any machines.
 
-mod common;
-
-use common::{any_flags, same_step};
+use super::{any_flags, same_step};
 use reference::encode::encode;
 use reference::instruction::{Form, Instruction};
 use reference::machine::Machine;
