@@ -1,6 +1,6 @@
 //! Runs against the reference.
 
-use super::{any_flags, same_run};
+use super::{any_flags, same_run, same_step};
 use reference::machine::Machine;
 use reference::random::Random;
 use reference::setting::{FULL, Setting};
@@ -63,6 +63,7 @@ fn guards() {
                 machine.p.resize(p, 1);
                 machine.zt0.resize(zt, 1);
                 same_run(setting, &vec![0x2520_7010; length], &mut machine);
+                same_step(setting, 0x2520_7010, &mut machine);
             }
         }
     }

@@ -1,0 +1,125 @@
+//! From a word to an instruction.
+
+use crate::setting::{SME, SME2, SME2P1, SVE2, SVE2P1};
+
+/// Sizes are in bits, registers by their numbers.
+#[derive(Clone, Copy, Debug, PartialEq, Eq)]
+pub enum Instruction {
+    Pext1 {
+        size: usize,
+        portion: usize,
+        pn: usize,
+        pd: usize,
+    },
+    /// Portions `portion` and `portion` + 1 to `pd` and the register after it.
+    Pext2 {
+        size: usize,
+        portion: usize,
+        pn: usize,
+        pd: usize,
+    },
+    Dup {
+        size: usize,
+        offset: u32,
+        /// 0 to 3 for W12 to W15
+        rm: usize,
+        pg: usize,
+        pn: usize,
+        pd: usize,
+    },
+    /// LUTI4C and LUTI4S: to `zd` and three more registers, `stride` apart.
+    Luti4 {
+        size: usize,
+        i1: usize,
+        zn: usize,
+        zd: usize,
+        stride: usize,
+    },
+    /// The size is the result's.
+    Uqrshrnb {
+        size: usize,
+        shift: u32,
+        zn: usize,
+        zd: usize,
+    },
+}
+
+/// Nothing where the word is undefined under these features.
+#[inline]
+pub fn decode(features: u32, word: u32) -> Option<Instruction> {
+    let has = |wanted| features & wanted != 0;
+    if word & 0xff3f_fc10 == 0x2520_7010 && has(SME2 | SVE2P1) {
+        Some(Instruction::Pext1 {
+            size: 8 << field(word, 22, 2),
+            portion: field(word, 8, 2),
+            pn: 8 + field(word, 5, 3),
+            pd: field(word, 0, 4),
+        })
+    } else if word & 0xff3f_fe10 == 0x2520_7410 && has(SME2 | SVE2P1) {
+        Some(Instruction::Pext2 {
+            size: 8 << field(word, 22, 2),
+            portion: 2 * field(word, 8, 1),
+            pn: 8 + field(word, 5, 3),
+            pd: field(word, 0, 4),
+        })
+    } else if word & 0xff20_c210 == 0x2520_4000 && has(SME) {
+        // i1:tszh:tszl; the lowest set bit of tszh:tszl gives the size, the
+        // bits above it are the offset.
+        let immediate = field(word, 22, 2) << 3 | field(word, 18, 3);
+        if immediate & 15 == 0 {
+            return None;
+        }
+        let zeros = immediate.trailing_zeros();
+        Some(Instruction::Dup {
+            size: 8 << zeros,
+            offset: (immediate >> (zeros + 1)) as u32,
+            rm: field(word, 16, 2),
+            pg: field(word, 10, 4),
+            pn: field(word, 5, 4),
+            pd: field(word, 0, 4),
+        })
+    } else if word & 0xfffe_cc03 == 0xc08a_8000 && has(SME2) {
+        let size = match field(word, 12, 2) {
+            1 => 16,
+            2 => 32,
+            _ => return None,
+        };
+        Some(Instruction::Luti4 {
+            size,
+            i1: field(word, 16, 1),
+            zn: field(word, 5, 5),
+            zd: field(word, 0, 5),
+            stride: 1,
+        })
+    } else if word & 0xfffe_fc0c == 0xc09a_9000 && has(SME2P1) {
+        Some(Instruction::Luti4 {
+            size: 16,
+            i1: field(word, 16, 1),
+            zn: field(word, 5, 5),
+            zd: field(word, 0, 5),
+            stride: 4,
+        })
+    } else if word & 0xffa0_fc00 == 0x4520_3800 && has(SVE2 | SME) {
+        // tszh:tszl:imm3; tszh:tszl gives the size.
+        let immediate = field(word, 22, 1) << 5 | field(word, 16, 5);
+        let size = match immediate >> 3 {
+            0 => return None,
+            1 => 8,
+            2 | 3 => 16,
+            _ => 32,
+        };
+        Some(Instruction::Uqrshrnb {
+            size,
+            shift: (2 * size - immediate) as u32,
+            zn: field(word, 5, 5),
+            zd: field(word, 0, 5),
+        })
+    } else {
+        None
+    }
+}
+
+#[inline]
+fn field(word: u32, low: u32, width: u32) -> usize {
+    (word >> low & ((1 << width) - 1)) as usize
+}
