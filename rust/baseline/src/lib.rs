@@ -1,9 +1,10 @@
 //! A plain fast interpreter of document 01's words, to compare the proved one
-//! with. Nothing here is proved; it is what one writes first for speed.
+//! with. Nothing here is proved; it is what one writes first: a word is
+//! decoded by masks, and its operation is a loop over elements.
 //!
 //! - [`setting`]: allowed vector lengths and feature numbers
-//! - [`word`]: from a word to an operation, by mask and value
-//! - [`predicates`], [`vectors`]: the operations on lent slots
+//! - [`word`]: from a word to an instruction
+//! - [`predicates`], [`vectors`]: the operations on lent registers
 //! - [`run`](mod@run): one word, and a stretch of them
 //!
 //! Answers are document 01's numbers. The binary `fastlist` beside it has its

@@ -3,7 +3,7 @@
 use crate::predicates::{self, Predicates};
 use crate::setting::{SVE2P1, Setting};
 use crate::vectors::{self, Table, Vectors};
-use crate::word::{Operation, decode};
+use crate::word::{Instruction, decode};
 
 const LONGEST_STRETCH: usize = 256;
 
@@ -37,31 +37,25 @@ pub struct Outcome {
 /// Executes one word and answers its number; where that is not 0, nothing has
 /// changed.
 pub fn step(setting: Setting, word: u32, files: &mut Files, scalars: &mut Scalars) -> u32 {
-    if !setting.is_allowed() {
-        return 1;
-    }
-    match Machine::new(setting, files) {
-        Some(mut machine) => machine.step(word, scalars),
-        None => 2,
+    let done = Machine::new(setting, files).and_then(|mut machine| machine.step(word, scalars));
+    match done {
+        Ok(()) => 0,
+        Err(number) => number,
     }
 }
 
-/// Executes words until one is refused. What does not change on the way is
-/// only asked once.
+/// Executes words until one is refused. The setting and the files' lengths do
+/// not change on the way and are tested once.
 pub fn run(setting: Setting, words: &[u32], files: &mut Files, scalars: &mut Scalars) -> Outcome {
-    let refused = |number| Outcome { number, done: 0 };
-    if !setting.is_allowed() {
-        return refused(1);
-    }
-    let Some(mut machine) = Machine::new(setting, files) else {
-        return refused(2);
+    let mut machine = match Machine::new(setting, files) {
+        Ok(machine) => machine,
+        Err(number) => return Outcome { number, done: 0 },
     };
     if words.len() > LONGEST_STRETCH {
-        return refused(8);
+        return Outcome { number: 8, done: 0 };
     }
     for (done, &word) in words.iter().enumerate() {
-        let number = machine.step(word, scalars);
-        if number != 0 {
+        if let Err(number) = machine.step(word, scalars) {
             return Outcome { number, done };
         }
     }
@@ -71,122 +65,119 @@ pub fn run(setting: Setting, words: &[u32], files: &mut Files, scalars: &mut Sca
     }
 }
 
-/// Files of the right lengths, as slots, under an allowed setting.
+/// Files of the right lengths, cut into registers, under an allowed setting.
 struct Machine<'a> {
     z: &'a mut Vectors,
     p: &'a mut Predicates,
     zt0: &'a Table,
+    vl: usize,
     features: u32,
-    /// How much of a Z slot is touched.
-    z_bytes: usize,
-    /// How much of a P slot is touched.
-    p_bytes: usize,
 }
 
 impl<'a> Machine<'a> {
-    fn new(setting: Setting, files: &'a mut Files) -> Option<Machine<'a>> {
+    /// Refuses with 1, then 2.
+    fn new(setting: Setting, files: &'a mut Files) -> Result<Machine<'a>, u32> {
+        if !setting.is_allowed() {
+            return Err(1);
+        }
         let (z, []) = files.z.as_chunks_mut() else {
-            return None;
+            return Err(2);
         };
         let (p, []) = files.p.as_chunks_mut() else {
-            return None;
+            return Err(2);
         };
-        Some(Machine {
-            z: z.try_into().ok()?,
-            p: p.try_into().ok()?,
-            zt0: files.zt0.try_into().ok()?,
+        let (zt0, []) = files.zt0.as_chunks() else {
+            return Err(2);
+        };
+        Ok(Machine {
+            z: z.try_into().map_err(|_| 2u32)?,
+            p: p.try_into().map_err(|_| 2u32)?,
+            zt0: zt0.try_into().map_err(|_| 2u32)?,
+            vl: setting.vl as usize,
             features: setting.features,
-            z_bytes: setting.vl as usize / 8,
-            p_bytes: setting.vl as usize / 64,
         })
     }
 
-    /// There is no number 7: no index of a LUTI4 lies past the source's end.
-    fn step(&mut self, word: u32, scalars: &mut Scalars) -> u32 {
-        let Some(operation) = decode(self.features, word) else {
-            return 3;
-        };
-        let refusal = self.access(operation, scalars);
-        if refusal == 0 {
-            self.execute(operation, scalars);
-            scalars.pc = scalars.pc.wrapping_add(4);
-        }
-        refusal
-    }
-
-    fn access(&self, operation: Operation, scalars: &Scalars) -> u32 {
-        match operation {
-            Operation::Pext1 { .. } | Operation::Pext2 { .. } if self.features & SVE2P1 == 0 => {
-                if scalars.s {
-                    0
-                } else {
-                    5
-                }
-            }
-            Operation::LookupHalf { .. } | Operation::LookupWord { .. } => {
-                match (scalars.s, scalars.t) {
-                    (false, _) => 5,
-                    (true, false) => 6,
-                    (true, true) => 0,
-                }
-            }
-            _ if scalars.v => 0,
-            _ => 4,
-        }
-    }
-
-    fn execute(&mut self, operation: Operation, scalars: &Scalars) {
-        let (z_bytes, p_bytes) = (self.z_bytes, self.p_bytes);
-        match operation {
-            Operation::Pext1 {
-                log_size,
+    /// Refuses with 3, then 4 or 5, then 6.
+    fn step(&mut self, word: u32, scalars: &mut Scalars) -> Result<(), u32> {
+        let vl = self.vl;
+        match decode(self.features, word).ok_or(3u32)? {
+            Instruction::Pext1 {
+                size,
                 portion,
-                counter,
+                pn,
                 pd,
             } => {
-                let counter = self.counter(counter);
-                predicates::extract(counter, log_size, portion, p_bytes, &mut self.p[pd]);
+                self.pext_access(scalars)?;
+                let counter = self.counter(pn);
+                predicates::pext(counter, size, portion, vl, &mut self.p[pd][..vl / 64]);
             }
-            Operation::Pext2 {
-                log_size,
-                first,
-                counter,
+            Instruction::Pext2 {
+                size,
+                portion,
+                pn,
                 pd,
             } => {
-                let counter = self.counter(counter);
-                let second = (pd + 1) % predicates::SLOTS;
-                predicates::extract(counter, log_size, first, p_bytes, &mut self.p[pd]);
-                predicates::extract(counter, log_size, first + 1, p_bytes, &mut self.p[second]);
+                self.pext_access(scalars)?;
+                let counter = self.counter(pn);
+                let next = (pd + 1) % predicates::SLOTS;
+                predicates::pext(counter, size, portion, vl, &mut self.p[pd][..vl / 64]);
+                predicates::pext(counter, size, portion + 1, vl, &mut self.p[next][..vl / 64]);
             }
-            Operation::Dup {
-                log_size,
+            Instruction::Dup {
+                size,
                 offset,
-                index,
+                rm,
                 pg,
                 pn,
                 pd,
             } => {
-                let base = scalars.w[index];
-                predicates::duplicate(self.p, log_size, base, offset, pg, pn, pd, p_bytes);
+                open(scalars.v, 4)?;
+                predicates::dup(self.p, size, scalars.w[rm], offset, pg, pn, pd, vl);
             }
-            Operation::LookupHalf { zn, zd, stride } => {
-                vectors::look_up_halves(self.z, self.zt0, zn, zd, stride, z_bytes);
+            Instruction::Luti4 {
+                size,
+                i1,
+                zn,
+                zd,
+                stride,
+            } => {
+                open(scalars.s, 5)?;
+                open(scalars.t, 6)?;
+                if size == 16 {
+                    vectors::luti4::<2>(self.z, self.zt0, i1, zn, zd, stride, vl);
+                } else {
+                    vectors::luti4::<4>(self.z, self.zt0, i1, zn, zd, stride, vl);
+                }
             }
-            Operation::LookupWord { segment, zn, zd } => {
-                vectors::look_up_words(self.z, self.zt0, segment, zn, zd, z_bytes);
-            }
-            Operation::Narrow {
-                log_size,
+            Instruction::Uqrshrnb {
+                size,
                 shift,
                 zn,
                 zd,
-            } => vectors::narrow(self.z, log_size, shift, zn, zd, z_bytes),
+            } => {
+                open(scalars.v, 4)?;
+                vectors::uqrshrnb(self.z, size, shift, zn, zd, vl);
+            }
+        }
+        scalars.pc = scalars.pc.wrapping_add(4);
+        Ok(())
+    }
+
+    fn pext_access(&self, scalars: &Scalars) -> Result<(), u32> {
+        if self.features & SVE2P1 != 0 {
+            open(scalars.v, 4)
+        } else {
+            open(scalars.s, 5)
         }
     }
 
     /// The low 16 bits of a P register.
-    fn counter(&self, register: usize) -> u16 {
-        let slot = &self.p[register];
-        u16::from_le_bytes([slot[0], slot[1]])
+    fn counter(&self, pn: usize) -> u16 {
+        u16::from_le_bytes([self.p[pn][0], self.p[pn][1]])
     }
+}
+
+fn open(flag: bool, number: u32) -> Result<(), u32> {
+    if flag { Ok(()) } else { Err(number) }
 }

@@ -13,15 +13,13 @@ pub struct Setting {
     pub features: u32,
 }
 
-/// Bit n is set where the feature number n is allowed: 0, 1, 3, 4, 5, 7, 12,
-/// 13, 15, 28, 29 and 31.
-const ALLOWED_FEATURES: u32 = 0xb000_b0bb;
-
 impl Setting {
     #[inline]
     pub fn is_allowed(self) -> bool {
         matches!(self.vl, 128 | 256 | 512 | 1024 | 2048)
-            && self.features < 32
-            && ALLOWED_FEATURES >> self.features & 1 == 1
+            && matches!(
+                self.features,
+                0 | 1 | 3 | 4 | 5 | 7 | 12 | 13 | 15 | 28 | 29 | 31
+            )
     }
 }

@@ -1,45 +1,43 @@
-//! From a word to an operation.
+//! From a word to an instruction.
 
 use crate::setting::{SME, SME2, SME2P1, SVE2, SVE2P1};
 
-/// An operation with its registers. Sizes are given by their logarithm, 0 for
-/// 8 bits to 3 for 64.
+/// Sizes are in bits, registers by their numbers.
 #[derive(Clone, Copy, Debug, PartialEq, Eq)]
-pub enum Operation {
-    /// One portion to `pd`.
+pub enum Instruction {
     Pext1 {
-        log_size: u32,
+        size: usize,
         portion: usize,
-        counter: usize,
+        pn: usize,
         pd: usize,
     },
-    /// The portions `first` and `first` + 1 to `pd` and the next register.
+    /// Portions `portion` and `portion` + 1 to `pd` and the register after it.
     Pext2 {
-        log_size: u32,
-        first: usize,
-        counter: usize,
+        size: usize,
+        portion: usize,
+        pn: usize,
         pd: usize,
     },
     Dup {
-        log_size: u32,
+        size: usize,
         offset: u32,
         /// 0 to 3 for W12 to W15
-        index: usize,
+        rm: usize,
         pg: usize,
         pn: usize,
         pd: usize,
     },
-    /// 16-bit elements to `zd` and three more, `stride` apart.
-    LookupHalf { zn: usize, zd: usize, stride: usize },
-    /// 32-bit elements to `zd` and the next three.
-    LookupWord {
-        segment: usize,
+    /// LUTI4C and LUTI4S: to `zd` and three more registers, `stride` apart.
+    Luti4 {
+        size: usize,
+        i1: usize,
         zn: usize,
         zd: usize,
+        stride: usize,
     },
     /// The size is the result's.
-    Narrow {
-        log_size: u32,
+    Uqrshrnb {
+        size: usize,
         shift: u32,
         zn: usize,
         zd: usize,
@@ -48,95 +46,77 @@ pub enum Operation {
 
 /// Nothing where the word is undefined under these features.
 #[inline]
-pub fn decode(features: u32, word: u32) -> Option<Operation> {
-    match word >> 24 {
-        0x25 => decode_predicate(features, word),
-        0x45 => decode_narrow(features, word),
-        0xc0 => decode_lookup(features, word),
-        _ => None,
-    }
-}
-
-fn decode_predicate(features: u32, word: u32) -> Option<Operation> {
-    let pd = field(word, 0, 4);
-    if word & 0xff3f_fc10 == 0x2520_7010 && features & (SME2 | SVE2P1) != 0 {
-        return Some(Operation::Pext1 {
-            log_size: word >> 22 & 3,
+pub fn decode(features: u32, word: u32) -> Option<Instruction> {
+    let has = |wanted| features & wanted != 0;
+    if word & 0xff3f_fc10 == 0x2520_7010 && has(SME2 | SVE2P1) {
+        Some(Instruction::Pext1 {
+            size: 8 << field(word, 22, 2),
             portion: field(word, 8, 2),
-            counter: 8 + field(word, 5, 3),
-            pd,
-        });
-    }
-    if word & 0xff3f_fe10 == 0x2520_7410 && features & (SME2 | SVE2P1) != 0 {
-        return Some(Operation::Pext2 {
-            log_size: word >> 22 & 3,
-            first: 2 * field(word, 8, 1),
-            counter: 8 + field(word, 5, 3),
-            pd,
-        });
-    }
-    let tsz = word >> 19 & 8 | word >> 18 & 7;
-    if word & 0xff20_c210 == 0x2520_4000 && features & SME != 0 && tsz != 0 {
-        // The lowest set bit gives the size, what is above it the offset.
-        let log_size = tsz.trailing_zeros();
-        let immediate = word >> 19 & 16 | tsz;
-        return Some(Operation::Dup {
-            log_size,
-            offset: immediate >> (log_size + 1),
-            index: field(word, 16, 2),
+            pn: 8 + field(word, 5, 3),
+            pd: field(word, 0, 4),
+        })
+    } else if word & 0xff3f_fe10 == 0x2520_7410 && has(SME2 | SVE2P1) {
+        Some(Instruction::Pext2 {
+            size: 8 << field(word, 22, 2),
+            portion: 2 * field(word, 8, 1),
+            pn: 8 + field(word, 5, 3),
+            pd: field(word, 0, 4),
+        })
+    } else if word & 0xff20_c210 == 0x2520_4000 && has(SME) {
+        // i1:tszh:tszl; the lowest set bit of tszh:tszl gives the size, the
+        // bits above it are the offset.
+        let immediate = field(word, 22, 2) << 3 | field(word, 18, 3);
+        if immediate & 15 == 0 {
+            return None;
+        }
+        let zeros = immediate.trailing_zeros();
+        Some(Instruction::Dup {
+            size: 8 << zeros,
+            offset: (immediate >> (zeros + 1)) as u32,
+            rm: field(word, 16, 2),
             pg: field(word, 10, 4),
             pn: field(word, 5, 4),
-            pd,
-        });
-    }
-    None
-}
-
-fn decode_lookup(features: u32, word: u32) -> Option<Operation> {
-    let zn = field(word, 5, 5);
-    // The size is among the fixed bits here. At 16 bits there is one segment,
-    // so that i1 chooses nothing.
-    if word & 0xfffe_fc03 == 0xc08a_9000 && features & SME2 != 0 {
-        return Some(Operation::LookupHalf {
-            zn,
+            pd: field(word, 0, 4),
+        })
+    } else if word & 0xfffe_cc03 == 0xc08a_8000 && has(SME2) {
+        let size = match field(word, 12, 2) {
+            1 => 16,
+            2 => 32,
+            _ => return None,
+        };
+        Some(Instruction::Luti4 {
+            size,
+            i1: field(word, 16, 1),
+            zn: field(word, 5, 5),
             zd: field(word, 0, 5),
             stride: 1,
-        });
-    }
-    if word & 0xfffe_fc03 == 0xc08a_a000 && features & SME2 != 0 {
-        return Some(Operation::LookupWord {
-            segment: field(word, 16, 1),
-            zn,
-            zd: field(word, 0, 5),
-        });
-    }
-    if word & 0xfffe_fc0c == 0xc09a_9000 && features & SME2P1 != 0 {
-        return Some(Operation::LookupHalf {
-            zn,
+        })
+    } else if word & 0xfffe_fc0c == 0xc09a_9000 && has(SME2P1) {
+        Some(Instruction::Luti4 {
+            size: 16,
+            i1: field(word, 16, 1),
+            zn: field(word, 5, 5),
             zd: field(word, 0, 5),
             stride: 4,
-        });
+        })
+    } else if word & 0xffa0_fc00 == 0x4520_3800 && has(SVE2 | SME) {
+        // tszh:tszl:imm3; tszh:tszl gives the size.
+        let immediate = field(word, 22, 1) << 5 | field(word, 16, 5);
+        let size = match immediate >> 3 {
+            0 => return None,
+            1 => 8,
+            2 | 3 => 16,
+            _ => 32,
+        };
+        Some(Instruction::Uqrshrnb {
+            size,
+            shift: (2 * size - immediate) as u32,
+            zn: field(word, 5, 5),
+            zd: field(word, 0, 5),
+        })
+    } else {
+        None
     }
-    None
-}
-
-fn decode_narrow(features: u32, word: u32) -> Option<Operation> {
-    if word & 0xffa0_fc00 != 0x4520_3800 || features & (SVE2 | SME) == 0 {
-        return None;
-    }
-    // tszh:tszl:imm3; the highest set bit, one of the upper three, gives the
-    // size.
-    let immediate = word >> 17 & 32 | word >> 16 & 31;
-    if immediate < 8 {
-        return None;
-    }
-    let log_size = immediate.ilog2() - 3;
-    Some(Operation::Narrow {
-        log_size,
-        shift: (16 << log_size) - immediate,
-        zn: field(word, 5, 5),
-        zd: field(word, 0, 5),
-    })
 }
 
 #[inline]

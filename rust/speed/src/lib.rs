@@ -1,4 +1,5 @@
-//! What the two drivers share: where two texts differ, and how to fail.
+//! What the drivers share: where two texts differ, the middle of some times,
+//! and how to fail.
 
 use std::io::Write;
 use std::process::ExitCode;
@@ -42,6 +43,17 @@ pub fn shown(line: &[u8]) -> String {
     format!("{:?}", String::from_utf8_lossy(cut))
 }
 
+pub fn minimum_and_median(times: &mut [f64]) -> (f64, f64) {
+    times.sort_by(f64::total_cmp);
+    let middle = times.len() / 2;
+    let median = if times.len() % 2 == 1 {
+        times[middle]
+    } else {
+        (times[middle - 1] + times[middle]) / 2.0
+    };
+    (times[0], median)
+}
+
 /// One line on stderr and a status.
 pub fn fail(program: &str, line: &str, status: u8) -> ExitCode {
     let _ = writeln!(std::io::stderr(), "{program}: {line}");
@@ -61,5 +73,12 @@ mod tests {
         assert_eq!(missing_newline.found, b"b");
         let too_much = first_difference(b"a\n", b"a\nSHORT 0\n").unwrap();
         assert_eq!((too_much.line, too_much.expected), (2, Vec::new()));
+    }
+
+    #[test]
+    fn medians() {
+        assert_eq!(minimum_and_median(&mut [3.0, 1.0, 2.0]), (1.0, 2.0));
+        assert_eq!(minimum_and_median(&mut [4.0, 1.0, 2.0, 3.0]), (1.0, 2.5));
+        assert_eq!(minimum_and_median(&mut [5.0]), (5.0, 5.0));
     }
 }

@@ -16,6 +16,13 @@ fn listspeed(arguments: &[&str]) -> Output {
         .unwrap()
 }
 
+fn stepspeed(arguments: &[&str]) -> Output {
+    Command::new(env!("CARGO_BIN_EXE_stepspeed"))
+        .args(arguments)
+        .output()
+        .unwrap()
+}
+
 fn text(bytes: &[u8]) -> String {
     String::from_utf8(bytes.to_vec()).unwrap()
 }
@@ -82,6 +89,14 @@ fn listspeed_refuses_different_programs() {
 }
 
 #[test]
+fn stepspeed_has_a_line_for_each_form_and_length() {
+    let output = stepspeed(&["1"]);
+    assert!(output.status.success());
+    let report = text(&output.stdout);
+    assert_eq!(report.lines().count(), 2 + 6 * 2, "{report}");
+}
+
+#[test]
 fn wrong_use_is_one_line_and_a_status() {
     let outputs = [
         listcheck(&[]),
@@ -91,6 +106,8 @@ fn wrong_use_is_one_line_and_a_status() {
         listspeed(&["cat", "cat", "Cargo.toml", "0"]),
         listspeed(&["cat", "cat", "no-such-file"]),
         listspeed(&["cat", "no-such-program", "Cargo.toml"]),
+        stepspeed(&["0"]),
+        stepspeed(&["1", "1"]),
     ];
     for output in outputs {
         assert!(!output.status.success());

@@ -12,7 +12,7 @@ use std::io::{self, Read, Write};
 use std::process::{Child, Command, ExitCode, Stdio};
 use std::time::Instant;
 
-use speed::{fail, first_difference, shown};
+use speed::{fail, first_difference, minimum_and_median, shown};
 
 const USAGE: &str = "usage: listspeed PROVED_LISTER FAST_LISTER INPUT_FILE [ROUNDS]";
 const DEFAULT_ROUNDS: usize = 15;
@@ -161,27 +161,4 @@ fn finish(lister: &OsStr, child: &mut Child) -> Result<(), String> {
 fn stop(child: &mut Child) {
     let _ = child.kill();
     let _ = child.wait();
-}
-
-fn minimum_and_median(times: &mut [f64]) -> (f64, f64) {
-    times.sort_by(f64::total_cmp);
-    let middle = times.len() / 2;
-    let median = if times.len() % 2 == 1 {
-        times[middle]
-    } else {
-        (times[middle - 1] + times[middle]) / 2.0
-    };
-    (times[0], median)
-}
-
-#[cfg(test)]
-mod tests {
-    use super::*;
-
-    #[test]
-    fn medians() {
-        assert_eq!(minimum_and_median(&mut [3.0, 1.0, 2.0]), (1.0, 2.0));
-        assert_eq!(minimum_and_median(&mut [4.0, 1.0, 2.0, 3.0]), (1.0, 2.5));
-        assert_eq!(minimum_and_median(&mut [5.0]), (5.0, 5.0));
-    }
 }

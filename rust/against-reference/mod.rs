@@ -1,6 +1,10 @@
-//! The interpreter put on the reference's machines.
+//! An interpreter put on the reference's machines. These pages are a module of
+//! a test file in each interpreter's own package, which names it `interpreter`.
 
-use baseline::{Files, Outcome, Scalars};
+mod runs;
+mod steps;
+
+use crate::interpreter::{self, Files, Outcome, Scalars};
 use reference::machine::{Flags, Machine};
 use reference::random::Random;
 use reference::refusal::number_of;
@@ -10,7 +14,7 @@ use reference::setting::Setting;
 fn lend<T>(
     setting: Setting,
     machine: &mut Machine,
-    act: impl FnOnce(baseline::Setting, &mut Files, &mut Scalars) -> T,
+    act: impl FnOnce(interpreter::Setting, &mut Files, &mut Scalars) -> T,
 ) -> T {
     let mut scalars = Scalars {
         w: machine.w,
@@ -24,7 +28,7 @@ fn lend<T>(
         p: &mut machine.p,
         zt0: &machine.zt0,
     };
-    let setting = baseline::Setting {
+    let setting = interpreter::Setting {
         vl: setting.vl,
         features: setting.features,
     };
@@ -40,12 +44,11 @@ fn lend<T>(
 }
 
 /// Both do the word and must agree; the machine is left as they leave it.
-#[allow(dead_code, reason = "not every test file uses all of this page")]
-pub fn same_step(setting: Setting, word: u32, machine: &mut Machine) -> u32 {
+fn same_step(setting: Setting, word: u32, machine: &mut Machine) -> u32 {
     let mut ours = machine.clone();
     let number = number_of(&reference::step::step(setting, word, machine));
     let our_number = lend(setting, &mut ours, |setting, files, scalars| {
-        baseline::step(setting, word, files, scalars)
+        interpreter::step(setting, word, files, scalars)
     });
     assert_eq!(our_number, number, "{word:08x} under {setting:?}");
     assert!(ours == *machine, "{word:08x} under {setting:?}");
@@ -53,12 +56,11 @@ pub fn same_step(setting: Setting, word: u32, machine: &mut Machine) -> u32 {
 }
 
 /// Both do the words and must agree; the machine is left as they leave it.
-#[allow(dead_code, reason = "not every test file uses all of this page")]
-pub fn same_run(setting: Setting, words: &[u32], machine: &mut Machine) -> Outcome {
+fn same_run(setting: Setting, words: &[u32], machine: &mut Machine) -> Outcome {
     let mut ours = machine.clone();
     let expected = reference::run::run(setting, words, machine);
     let outcome = lend(setting, &mut ours, |setting, files, scalars| {
-        baseline::run(setting, words, files, scalars)
+        interpreter::run(setting, words, files, scalars)
     });
     assert_eq!(
         (outcome.number, outcome.done),
@@ -70,7 +72,7 @@ pub fn same_run(setting: Setting, words: &[u32], machine: &mut Machine) -> Outco
 }
 
 /// Mostly open, so that words are done.
-pub fn any_flags(random: &mut Random) -> Flags {
+fn any_flags(random: &mut Random) -> Flags {
     let number = if random.coin() { 7 } else { random.below(8) };
     Flags::from_number(number).unwrap()
 }

@@ -1,9 +1,7 @@
 //! Steps against the reference: its questions, all counters, and any words on
 //! any machines.
 
-mod common;
-
-use common::{any_flags, same_step};
+use super::{any_flags, same_step};
 use reference::encode::encode;
 use reference::instruction::{Form, Instruction};
 use reference::machine::Machine;
@@ -77,6 +75,65 @@ fn every_counter() {
         let features = ALL_FEATURES;
         assert_eq!(same_step(Setting { vl, features }, word, &mut machine), 0);
     }
+}
+
+/// Registers that are written and read by the same word, at every length.
+#[test]
+fn destinations_that_are_sources() {
+    let mut random = Random::new(35);
+    for vl in VECTOR_LENGTHS {
+        let features = ALL_FEATURES;
+        for _ in 0..200 {
+            let p = random.below(16);
+            let z = random.below(32);
+            let dup = matching_word(&mut random, Form::Dup);
+            let lookup = matching_word(&mut random, Form::Luti4c);
+            let strided = matching_word(&mut random, Form::Luti4s);
+            let narrow = matching_word(&mut random, Form::Uqrshrnb);
+            let pext = random.pick(&[Form::Pext1, Form::Pext2]);
+            let pext = matching_word(&mut random, pext);
+            for word in [
+                dup & !0x3c0f | p << 10 | p,
+                dup & !0x1ef | p << 5 | p,
+                dup & !0x3def | p << 10 | p << 5 | p,
+                lookup & !0x3fc | z << 5 | z & 28,
+                strided & !0x3f3 | z << 5 | z & 19,
+                narrow & !0x3ff | z << 5 | z,
+                // PNn is one of the upper eight.
+                pext & !0xef | (p & 7) << 5 | (p | 8),
+                pext & !0xef | (p & 7) << 5 | ((p | 8) - 1),
+            ] {
+                let mut machine = any_machine(&mut random);
+                assert_eq!(same_step(Setting { vl, features }, word, &mut machine), 0);
+            }
+        }
+    }
+}
+
+/// Files of other lengths, with any words.
+#[test]
+fn damaged_lengths() {
+    let mut random = Random::new(36);
+    let mut counts = [0; 10];
+    for word in listing_words(37, 2_000) {
+        let setting = any_setting(&mut random);
+        let mut machine = any_machine(&mut random);
+        let file = match random.below(3) {
+            0 => &mut machine.z,
+            1 => &mut machine.p,
+            _ => &mut machine.zt0,
+        };
+        // A byte or more off, or whole registers; now and then not at all.
+        let step = random.pick(&[0, 1, 4, 32, 64, 256]);
+        let length = if random.coin() {
+            file.len() + step
+        } else {
+            file.len().saturating_sub(step)
+        };
+        file.resize(length, 0x5a);
+        counts[same_step(setting, word, &mut machine) as usize] += 1;
+    }
+    assert!(counts[0] > 0 && counts[2] > 0, "{counts:?}");
 }
 
 /// Every setting from a range that holds all allowed ones.

@@ -1,8 +1,6 @@
 //! Runs against the reference.
 
-mod common;
-
-use common::{any_flags, same_run};
+use super::{any_flags, same_run, same_step};
 use reference::machine::Machine;
 use reference::random::Random;
 use reference::setting::{FULL, Setting};
@@ -65,6 +63,7 @@ fn guards() {
                 machine.p.resize(p, 1);
                 machine.zt0.resize(zt, 1);
                 same_run(setting, &vec![0x2520_7010; length], &mut machine);
+                same_step(setting, 0x2520_7010, &mut machine);
             }
         }
     }
