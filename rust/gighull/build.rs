@@ -9,7 +9,9 @@ fn main() {
     let folder = root.join("target/staticlib");
     let archive = folder.join("libgighull.a");
     if !archive.exists() {
-        println!("cargo:warning=rt staticlib gighull (target/staticlib/libgighull.a was not there)");
+        println!(
+            "cargo:warning=rt staticlib gighull (target/staticlib/libgighull.a was not there)"
+        );
         let status = Command::new("rt")
             .args(["staticlib", "gighull"])
             .current_dir(&root)

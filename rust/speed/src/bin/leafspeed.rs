@@ -4,8 +4,12 @@
 //! baseline's: each form at each element size, at VL 128 and 2048. Both start
 //! from the same machine. A round times both, the one that goes first changing
 //! from round to round, and gives a ratio proved/baseline; the table has the
-//! median and the minimum of the rounds' ratios, and each side's least time.
-//! Afterwards both machines must be equal, byte for byte, and no word refused.
+//! median and the minimum of the rounds' ratios, each side's least time, and
+//! the ratio of these. (A round in which the baseline alone was interrupted
+//! makes a minimum that says nothing: read the median.)
+//! Afterwards both machines must be equal, byte for byte. Two rows are of words
+//! that are refused, undefined and for a closed flag: what every step costs
+//! beside its operation. All other words must be done.
 
 use std::hint::black_box;
 use std::process::ExitCode;
@@ -26,8 +30,8 @@ fn main() -> ExitCode {
         Some(_) => return fail("leafspeed", "ROUNDS is not a number above 0", 2),
     };
     println!("{rounds} rounds; ratio proved/baseline of one step; times in ns");
-    println!("| form | VL | median | minimum | proved | baseline | bar |");
-    println!("|---|---|---|---|---|---|---|");
+    println!("| form | VL | median | minimum | proved | baseline | least/least | bar |");
+    println!("|---|---|---|---|---|---|---|---|");
     let mut over = 0;
     for vl in [128, 2048] {
         for case in cases() {
@@ -37,12 +41,13 @@ fn main() -> ExitCode {
                     let missed = row.median > bar;
                     over += usize::from(missed);
                     println!(
-                        "| {} | {vl} | {:.3} | {:.3} | {:.1} | {:.1} | {bar}{} |",
+                        "| {} | {vl} | {:.3} | {:.3} | {:.1} | {:.1} | {:.3} | {bar}{} |",
                         case.name,
                         row.median,
                         row.minimum,
                         row.proved,
                         row.baseline,
+                        row.proved / row.baseline,
                         if missed { " MISSED" } else { "" }
                     );
                 }
@@ -59,6 +64,9 @@ struct Case {
     word: u32,
     /// The bar at VL 2048; below it is 1.05.
     bar: f64,
+    /// What every step must answer, and whether V is open.
+    answer: u32,
+    open: bool,
 }
 
 impl Case {
@@ -69,12 +77,31 @@ impl Case {
 
 /// Sources and destinations differ, so that every step finds the same sources.
 fn cases() -> Vec<Case> {
-    let case = |name, word, bar| Case { name, word, bar };
+    let case = |name, word, bar| Case {
+        name,
+        word,
+        bar,
+        answer: 0,
+        open: true,
+    };
     let pext1 = |size: u32| 0x2520_7010 | size << 22 | 1 << 8 | 2 << 5 | 3;
     let pext2 = |size: u32| 0x2520_7410 | size << 22 | 2 << 5 | 3;
-    let dup = |tsz: u32| 0x2520_4000 | (tsz >> 3) << 22 | (tsz & 7) << 18 | 1 << 16 | 4 << 10 | 5 << 5 | 6;
-    let narrow = |tsz: u32, imm3: u32| 0x4520_3800 | (tsz >> 2) << 22 | (tsz & 3) << 19 | imm3 << 16 | 7 << 5 | 9;
+    let dup = |tsz: u32| {
+        0x2520_4000 | (tsz >> 3) << 22 | (tsz & 7) << 18 | 1 << 16 | 4 << 10 | 5 << 5 | 6
+    };
+    let narrow = |tsz: u32, imm3: u32| {
+        0x4520_3800 | (tsz >> 2) << 22 | (tsz & 3) << 19 | imm3 << 16 | 7 << 5 | 9
+    };
     vec![
+        Case {
+            answer: 3,
+            ..case("undefined", 0x2520_4000, 1.05)
+        },
+        Case {
+            answer: 4,
+            open: false,
+            ..case("V closed", narrow(0b001, 3), 1.05)
+        },
         case("PEXT1 B", pext1(0), 0.4),
         case("PEXT1 H", pext1(1), 0.4),
         case("PEXT1 S", pext1(2), 0.4),
@@ -112,7 +139,11 @@ struct Machine<Scalars> {
 
 fn machines() -> (Machine<gighull::Scalars>, Machine<baseline::Scalars>) {
     let mut random = Random::new(5);
-    let mut bytes = |count: usize| (0..count).map(|_| random.next_u32() as u8).collect::<Vec<u8>>();
+    let mut bytes = |count: usize| {
+        (0..count)
+            .map(|_| random.next_u32() as u8)
+            .collect::<Vec<u8>>()
+    };
     let (z, mut p, zt) = (bytes(8192), bytes(512), bytes(64));
     // P10 is the counter: elements of 8 bits, true from a count in the first
     // portions on at VL 128, and inverted.
@@ -148,55 +179,60 @@ fn machines() -> (Machine<gighull::Scalars>, Machine<baseline::Scalars>) {
     (proved, plain)
 }
 
-/// The sum of the answers.
-#[inline(never)]
-fn proved_steps(machine: &mut Machine<gighull::Scalars>, vl: u32, word: u32, count: u32) -> u32 {
-    let mut answers = 0;
-    for _ in 0..count {
-        answers += gighull::step(
-            &mut machine.z,
-            &mut machine.p,
-            &mut machine.zt,
-            &mut machine.scalars,
-            black_box(vl),
-            black_box(FEATURES),
-            black_box(word),
-        );
-    }
-    answers
+/// One step, in a form that the loop below calls without knowing it.
+type Step<Scalars> = fn(&mut Machine<Scalars>, u32, u32, u32) -> u32;
+
+fn proved_step(machine: &mut Machine<gighull::Scalars>, vl: u32, features: u32, word: u32) -> u32 {
+    let Machine { z, p, zt, scalars } = machine;
+    gighull::step(z, p, zt, scalars, vl, features, word)
 }
 
-#[inline(never)]
-fn baseline_steps(machine: &mut Machine<baseline::Scalars>, vl: u32, word: u32, count: u32) -> u32 {
-    let mut answers = 0;
+fn baseline_step(
+    machine: &mut Machine<baseline::Scalars>,
+    vl: u32,
+    features: u32,
+    word: u32,
+) -> u32 {
+    let Machine { z, p, zt, scalars } = machine;
+    let mut files = baseline::Files { z, p, zt0: zt };
+    baseline::step(
+        baseline::Setting { vl, features },
+        word,
+        &mut files,
+        scalars,
+    )
+}
+
+/// Nanoseconds a step. Adds the answers to `answers`.
+fn time<Scalars>(
+    step: Step<Scalars>,
+    machine: &mut Machine<Scalars>,
+    vl: u32,
+    word: u32,
+    count: u32,
+    answers: &mut u32,
+) -> f64 {
+    let step = black_box(step);
+    let (vl, features, word) = black_box((vl, FEATURES, word));
+    let begin = Instant::now();
     for _ in 0..count {
-        let mut files = baseline::Files {
-            z: &mut machine.z,
-            p: &mut machine.p,
-            zt0: &machine.zt,
-        };
-        let setting = baseline::Setting {
-            vl: black_box(vl),
-            features: black_box(FEATURES),
-        };
-        answers += baseline::step(setting, black_box(word), &mut files, &mut machine.scalars);
+        *answers += step(machine, vl, features, word);
     }
-    answers
+    begin.elapsed().as_secs_f64() * 1e9 / f64::from(count)
 }
 
 fn measure(case: &Case, vl: u32, rounds: usize) -> Result<Row, String> {
     let (mut proved, mut plain) = machines();
-    let mut answers = 0;
+    proved.scalars.v = case.open;
+    plain.scalars.v = case.open;
+    let (mut done, mut answers, mut plain_answers) = (0, 0, 0);
     let mut time_proved = |count: u32| {
-        let begin = Instant::now();
-        answers += proved_steps(&mut proved, vl, case.word, count);
-        begin.elapsed().as_secs_f64() * 1e9 / f64::from(count)
+        done += count;
+        time(proved_step, &mut proved, vl, case.word, count, &mut answers)
     };
-    let mut plain_answers = 0;
     let mut time_plain = |count: u32| {
-        let begin = Instant::now();
-        plain_answers += baseline_steps(&mut plain, vl, case.word, count);
-        begin.elapsed().as_secs_f64() * 1e9 / f64::from(count)
+        let answers = &mut plain_answers;
+        time(baseline_step, &mut plain, vl, case.word, count, answers)
     };
     time_proved(1000);
     let count = (NANOSECONDS / time_plain(1000)).clamp(100.0, 1e6) as u32;
@@ -213,8 +249,12 @@ fn measure(case: &Case, vl: u32, rounds: usize) -> Result<Row, String> {
         least_proved = least_proved.min(a);
         least_plain = least_plain.min(b);
     }
-    if answers != 0 || plain_answers != 0 {
-        return Err(format!("{}: a word was refused", case.name));
+    let expected = done * case.answer;
+    if answers != expected || plain_answers != expected {
+        return Err(format!(
+            "{}: another answer than {}",
+            case.name, case.answer
+        ));
     }
     let (s, t) = (proved.scalars, plain.scalars);
     let same = (proved.z, proved.p, proved.zt) == (plain.z, plain.p, plain.zt)
