@@ -27,11 +27,11 @@ module _ (s : Setting) (words order : List ℕ) where
       let a = passed (allowedOf s) _ 0 h in
       let b = passed (leb (length words) 256) _ 7 (a .then) in
       let c = passed (allRead s words) _ 2 (b .then) in
-      let d = both-yes (rearranges (length words) order) (permits (conflict s) words order) y in
+      let d = both-yes _ _ y in
       record {
         allowed = a .yes;
         short = leb-true (length words) 256 (b .yes);
-        read = each-holds (λ i. isRead s (getD words i 0)) (length words) (c .yes);
+        read = each-holds _ (length words) (c .yes);
         rearrangement = rearranges-sound (length words) order (d .0);
         permitted = permits-sound (conflict s) words order (d .1);
       }
