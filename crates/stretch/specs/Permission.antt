@@ -25,6 +25,7 @@ unanswered s words = firstFailed (need 1 (allowedOf s) ∷ need 8 (leb (length w
 abbrev pub permittedBy : Setting → List ℕ → List ℕ → Bool
 permittedBy s words order = rearranges (length words) order && permits (conflict s) words order
 
+-- the answer, unless a number other than 0 refuses it
 abbrev pub unless : {A : Type 0} → ℕ → A → Outcome A
 unless zero a = accept a
 unless (suc k) a = refuse (suc k)
