@@ -12,7 +12,7 @@ use lib.ListN.{length, getD}
 use borrow.Author.Tests.{eqb-true, eq-eqb, ltb-true, lt-ltb}
 use Rattle.element.proofs.Tests.{both-yes}
 use Rattle.order.specs.Rearranged.{bump, count, place, Rearrangement, Permitted}
-use Rattle.order.specs.Tested.{allBelow, rearranges, keeps, permits}
+use Rattle.order.specs.Tested.{allBelow, rearranges, permits}
 use Rattle.order.proofs.Counted.{count-same, remove, count-remove, length-remove}
 use Rattle.order.proofs.Positions.{upto, count-upto-in, count-upto-above, length-upto, length-order}
 
@@ -54,31 +54,26 @@ no-room (p ∷ ps) qs s e x =
     held = omega (arith, s p, count-same p ps)
 
 module _ (n : ℕ) (order : List ℕ) where
-  pub rearranges-sound : rearranges n order ≡ true → Rearrangement n order
-  unfolding rearranges
-  rearranges-sound h = record {
+  pub listed-once : length order ≡ n → ((i : ℕ) → i < n → count i order ≡ 1) → Rearrangement n order
+  listed-once e once = record {
     once = once;
-    none = λ i l. no-room (upto 0 n) order at-least (eqb-true (length order) n (p .0) ∙ sym (length-upto 0 n)) i ∙ count-upto-above 0 n i (omega arith);
+    none = λ i l. no-room (upto 0 n) order (λ x. at-least x (decLt x n)) (e ∙ sym (length-upto 0 n)) i ∙ count-upto-above 0 n i (omega arith);
   }
     where
-      p : (eqb (length order) n ≡ true) × (allBelow (λ i. eqb (count i order) 1) n ≡ true)
-      p = both-yes (eqb (length order) n) (allBelow (λ i. eqb (count i order) 1) n) h
+      at-least : (x : ℕ) → Dec (x < n) → count x (upto 0 n) ≤ count x order
+      at-least x (yes l) = omega (arith, count-upto-in 0 n x (omega arith) (omega arith), once x l)
+      at-least x (no l) = omega (arith, count-upto-above 0 n x (omega arith))
 
-      once : (i : ℕ) → i < n → count i order ≡ 1
-      once i l = eqb-true (count i order) 1 (each-holds (λ i. eqb (count i order) 1) n (p .1) i l)
-
-      at-least : (x : ℕ) → count x (upto 0 n) ≤ count x order
-      at-least x = go (decLt x n)
-        where
-          go : Dec (x < n) → count x (upto 0 n) ≤ count x order
-          go (yes l) = omega (arith, count-upto-in 0 n x (omega arith) (omega arith), once x l)
-          go (no l) = omega (arith, count-upto-above 0 n x (omega arith))
+  pub rearranges-sound : rearranges n order ≡ true → Rearrangement n order
+  unfolding rearranges
+  rearranges-sound h =
+      let p = both-yes _ _ h in
+      listed-once (eqb-true (length order) n (p .0)) (λ i l. eqb-true (count i order) 1 (each-holds _ n (p .1) i l))
 
   pub rearranges-whole : Rearrangement n order → rearranges n order ≡ true
   unfolding rearranges
   rearranges-whole R =
-      rw (eq-eqb (length order) n (length-order n order R ∙ length-upto 0 n))
-      (all-hold (λ i. eqb (count i order) 1) n (λ i l. eq-eqb (count i order) 1 (R .once i l)))
+      rw (eq-eqb (length order) n (length-order n order R ∙ length-upto 0 n)) (all-hold _ n (λ i l. eq-eqb (count i order) 1 (R .once i l)))
 
 -- ---- permission
 or-not : (c b : Bool) → not c || b ≡ true → c ≡ true → b ≡ true
@@ -93,13 +88,11 @@ module _ (conflict : ℕ → ℕ → Bool) (words order : List ℕ) where
   pub permits-sound : permits conflict words order ≡ true → Permitted conflict words order
   unfolding permits
   permits-sound h = record {
-    first = λ i j l k e. ltb-true (place i order) (place j order) (or-not (conflict (getD words i 0) (getD words j 0)) _
-        (each-holds (λ i. keeps conflict words order i j) j (each-holds (λ j. allBelow (λ i. keeps conflict words order i j) j) (length words) h j k) i l) e);
+    first = λ i j l k e. ltb-true (place i order) (place j order) (or-not (conflict (getD words i 0) (getD words j 0)) _ (each-holds _ j (each-holds _ (length words) h j k) i l) e);
   }
 
   pub permits-whole : Permitted conflict words order → permits conflict words order ≡ true
   unfolding permits
   permits-whole P =
-      all-hold (λ j. allBelow (λ i. keeps conflict words order i j) j) (length words)
-      (λ j k. all-hold (λ i. keeps conflict words order i j) j
-      (λ i l. or-follows (conflict (getD words i 0) (getD words j 0)) _ (λ e. lt-ltb (place i order) (place j order) (P .first i j l k e))))
+      all-hold _ (length words)
+      (λ j k. all-hold _ j (λ i l. or-follows (conflict (getD words i 0) (getD words j 0)) _ (λ e. lt-ltb (place i order) (place j order) (P .first i j l k e))))

@@ -1,1 +1,1 @@
-// Registers and what a word touches, on any machine: definitions in specs/, laws in proofs/. There is no code.
+// Registers, what a word touches, rearrangements and runs, on any machine: definitions in specs/, laws and theorems in proofs/. There is no code.

@@ -13,7 +13,7 @@ use Rattle.encoding.specs.declared.Instruction.the-variants.{Pext1, Pext2, Dup,
 use Rattle.order.specs.Banks.{Register, sameRegister}
 use Rattle.order.proofs.Touches.{copies-conflict}
 use Rattle.machine.specs.Touched.{writesOf}
-use Rattle.machine.specs.Step.{overWord, reads, writes}
+use Rattle.machine.specs.Step.{overWord}
 use Rattle.stretch.specs.Conflict.{conflict, ifRead, conflictOf}
 use Rattle.stretch.specs.Claims.{CopiesConflict, EachWrites}
 
@@ -25,7 +25,7 @@ unfolding conflictOf
 copies s w h = go (decodeOf s w) h
   where
     go : (d : Outcome Instruction) → 0 < length (overWord [] writesOf d) → ifRead d (ifRead d (accept (conflict s w w))) ≡ accept true
-    go (accept i) k = ap accept (copies-conflict sameRegister self (reads s) (writes s) w h)
+    go (accept i) k = ap accept (copies-conflict sameRegister self _ _ w h)
     go (refuse n) k = absurd (omega arith)
 
 pub each-writes : EachWrites

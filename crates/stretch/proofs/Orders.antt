@@ -33,7 +33,7 @@ unfolding runOf
 before-any-word s words m = record {
   not-allowed = λ a. rw a;
   wrong-length = λ a h. rw (a, h);
-  too-many = λ a h l. rw (a, h, lt-leb (length words) 256 l);
+  too-many = λ a h l. rw (a, h, lt-leb);
 }
 
 pub whole-done : WholeDone

@@ -1,6 +1,6 @@
 -- The answer yes stands for a permission, and a permission is answered yes: `order`'s tests are its definitions, and a refusal is no yes.
 use mathlib.Core.Path.{_≡_, refl, ap}
-use mathlib.Core.Bool.{Bool, true, _&&_}
+use mathlib.Core.Bool.{true}
 use mathlib.Core.List.{List}
 use Prim.Native.Nat.{ℕ, zero, suc}
 use native.Mathlib.Omega.{arith}
@@ -11,27 +11,23 @@ use Rattle.setting.specs.Allowed.{allowedOf}
 use Rattle.setting.specs.Numbers.{accept}
 use Rattle.setting.specs.declared.Setting.{Setting}
 use Rattle.element.proofs.Tests.{both-yes}
-use Rattle.order.specs.Tested.{rearranges, permits}
 use Rattle.order.proofs.Tested.{each-holds, all-hold, rearranges-sound, rearranges-whole, permits-sound, permits-whole}
 use Rattle.stretch.specs.Conflict.{conflict, isRead}
-use Rattle.stretch.specs.Permission.{allRead, unanswered, unless, permittedOf, Permission}
+use Rattle.stretch.specs.Permission.{allRead, unanswered, permittedBy, unless, permittedOf, Permission}
 use Rattle.stretch.specs.Claims.{PermittedExactly}
 use Rattle.stretch.proofs.Passed.{passed}
 
 module _ (s : Setting) (words order : List ℕ) where
-  abbrev yes : Bool
-  yes = rearranges (length words) order && permits (conflict s) words order
-
-  answered : unanswered s words ≡ 0 → yes ≡ true → Permission s words order
+  answered : unanswered s words ≡ 0 → permittedBy s words order ≡ true → Permission s words order
   answered h y =
       let a = passed (allowedOf s) _ 0 h in
       let b = passed (leb (length words) 256) _ 7 (a .then) in
       let c = passed (allRead s words) _ 2 (b .then) in
-      let d = both-yes (rearranges (length words) order) (permits (conflict s) words order) y in
+      let d = both-yes _ _ y in
       record {
         allowed = a .yes;
         short = leb-true (length words) 256 (b .yes);
-        read = each-holds (λ i. isRead s (getD words i 0)) (length words) (c .yes);
+        read = each-holds _ (length words) (c .yes);
         rearrangement = rearranges-sound (length words) order (d .0);
         permitted = permits-sound (conflict s) words order (d .1);
       }
@@ -40,8 +36,8 @@ module _ (s : Setting) (words order : List ℕ) where
   unfolding permittedOf
   sound e = go (unanswered s words) refl e
     where
-      go : (k : ℕ) → unanswered s words ≡ k → unless k yes ≡ accept true → Permission s words order
-      go zero h q = let y : yes ≡ true = cc in answered h y
+      go : (k : ℕ) → unanswered s words ≡ k → unless k (permittedBy s words order) ≡ accept true → Permission s words order
+      go zero h q = let y : permittedBy s words order ≡ true = cc in answered h y
       go (suc k) h q = let z : _≡_ {A = ℕ} 0 1 = cc in absurd (omega arith)
 
   whole : Permission s words order → permittedOf s words order ≡ accept true

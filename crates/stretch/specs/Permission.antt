@@ -21,12 +21,17 @@ allRead s words = allBelow (λ i. isRead s (getD words i 0)) (length words)
 abbrev pub unanswered : Setting → List ℕ → ℕ
 unanswered s words = firstFailed (need 1 (allowedOf s) ∷ need 8 (leb (length words) 256) ∷ need 3 (allRead s words) ∷ [])
 
+-- the order is a rearrangement of the stretch, and permitted
+abbrev pub permittedBy : Setting → List ℕ → List ℕ → Bool
+permittedBy s words order = rearranges (length words) order && permits (conflict s) words order
+
+-- the answer, unless a number other than 0 refuses it
 abbrev pub unless : {A : Type 0} → ℕ → A → Outcome A
 unless zero a = accept a
 unless (suc k) a = refuse (suc k)
 
 unfoldable pub permittedOf : Setting → List ℕ → List ℕ → Outcome Bool
-permittedOf s words order = unless (unanswered s words) (rearranges (length words) order && permits (conflict s) words order)
+permittedOf s words order = unless (unanswered s words) (permittedBy s words order)
 
 -- what the answer yes stands for: the question is not refused, and the order is a rearrangement of the stretch and permitted
 pub record Permission (s : Setting) (words order : List ℕ) : Type 0 where

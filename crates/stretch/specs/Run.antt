@@ -17,6 +17,7 @@ refusedBefore s words m = firstFailed (need 1 (allowedOf s) ∷ need 2 (sized m)
 abbrev pub undone : ℕ → Machine → Ended Machine
 undone n m = record { answer = n; done = 0; left = m }
 
+-- refused so, or stepped
 abbrev pub begun : ℕ → Setting → List ℕ → Machine → Ended Machine
 begun zero s words m = steps (refusalOf s) (execOf s) words 0 m
 begun (suc k) s words m = undone (suc k) m
