@@ -21,7 +21,7 @@ use Rattle.encoding.specs.Decode.{firstOf, decodeOf}
 use Rattle.encoding.specs.Encode.{written, unwritten, encodeOf}
 use Rattle.encoding.specs.declared.Instruction.{Instruction}
 use Rattle.encoding.proofs.LayoutLaws.{sound, maskOf, fixedOf, matches-masked, masked-matches}
-use Rattle.encoding.proofs.Apart.{decide}
+use Rattle.encoding.proofs.Apart.{decide, apart, not-both}
 use Rattle.encoding.proofs.FieldLaws.{and-true}
 use Rattle.encoding.proofs.Choice.{readAt, read-past, first-is-read, first-matches}
 
@@ -64,19 +64,39 @@ places false false false false true n = refl
 places false false false false false true = refl
 places false false false false false false = refl
 
+-- a row's test as the code makes it: the layout, and the rest; PEXT has no field condition
+three : (a b c : Bool) → (a && (b && c)) ≡ (a && b && c)
+three true b c = refl
+three false b c = refl
+
 and-yes : (a : Bool) → a && true ≡ a
 and-yes true = refl
 and-yes false = refl
 
--- as the code tests them: PEXT has no field condition
+abbrev pub rest : Row → ℕ → ℕ → Bool
+rest r f w = r .features f && r .condition (fieldsOf (r .layout) w)
+
 pub place-by-tests : (f w : ℕ)
     → pick (matches (pext1 .layout) w && pext1 .features f) 0 (pick (matches (pext2 .layout) w && pext2 .features f) 1
-    (pick (rowMatches dup f w) 2 (pick (rowMatches luti4c f w) 3 (pick (rowMatches luti4s f w) 4 (pick (rowMatches uqrshrnb f w) 5 6)))))
+    (pick (matches (dup .layout) w && rest dup f w) 2 (pick (matches (luti4c .layout) w && rest luti4c f w) 3
+    (pick (matches (luti4s .layout) w && rest luti4s f w) 4 (pick (matches (uqrshrnb .layout) w && rest uqrshrnb f w) 5 6)))))
     ≡ placeFirst rows f w
 unfolding placeFirst
 place-by-tests f w =
-    rw (and-yes (matches (pext1 .layout) w && pext1 .features f), and-yes (matches (pext2 .layout) w && pext2 .features f))
-    (places (matches (pext1 .layout) w && pext1 .features f) (matches (pext2 .layout) w && pext2 .features f) (rowMatches dup f w) (rowMatches luti4c f w) (rowMatches luti4s f w) (rowMatches uqrshrnb f w))
+    let m : List Piece → Bool = λ l. matches l w in
+    rw (
+      and-yes (m (pext1 .layout) && pext1 .features f),
+      and-yes (m (pext2 .layout) && pext2 .features f),
+      three (m (dup .layout)) (dup .features f) (dup .condition (fieldsOf (dup .layout) w)),
+      three (m (luti4c .layout)) (luti4c .features f) (luti4c .condition (fieldsOf (luti4c .layout) w)),
+      three (m (luti4s .layout)) (luti4s .features f) (luti4s .condition (fieldsOf (luti4s .layout) w)),
+      three (m (uqrshrnb .layout)) (uqrshrnb .features f) (uqrshrnb .condition (fieldsOf (uqrshrnb .layout) w)),
+    )
+    (places (m (pext1 .layout) && pext1 .features f) (m (pext2 .layout) && pext2 .features f) (rowMatches dup f w) (rowMatches luti4c f w) (rowMatches luti4s f w) (rowMatches uqrshrnb f w))
+
+-- a word of one layout has no other
+pub no-other : (j k w : ℕ) → T (sound (layoutAt k)) → T (sound (layoutAt j)) → T (apart (layoutAt k) (layoutAt j)) → matches (layoutAt k) w ≡ true → matches (layoutAt j) w ≡ false
+no-other j k w s t d h = not-both (layoutAt k) (layoutAt j) s t d w h
 
 place-pick : (b : Bool) (i : Instruction) (o : Outcome Instruction) → placeIn (pick b (accept i) o) ≡ pick b (placeOf i) (placeIn o)
 place-pick true i o = refl

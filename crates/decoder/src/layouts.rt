@@ -3,8 +3,8 @@ ghost use mathlib.Core.Path.{_≡_};
 ghost use mathlib.Core.Bool.{_&&_};
 ghost use Prim.Native.Nat.{_<_};
 ghost use Rattle.element.specs.Size.{pick};
-ghost use Rattle.encoding.specs.Layout.{matches};
-ghost use Rattle.encoding.specs.Rows.{rows, rowMatches, pext1 as pext1Row, dup as dupRow, luti4c as luti4cRow, luti4s as luti4sRow, uqrshrnb as uqrshrnbRow};
+ghost use Rattle.encoding.specs.Layout.{matches, fieldsOf};
+ghost use Rattle.encoding.specs.Rows.{rows, pext1 as pext1Row, dup as dupRow, luti4c as luti4cRow, luti4s as luti4sRow, uqrshrnb as uqrshrnbRow};
 ghost use Rattle.encoding.specs.Forms.{layoutAt, placeFirst};
 use crate::fields;
 use setting::Feature;
@@ -36,44 +36,37 @@ fn has_layout(place: usize, word: u32) -> bool
     word & MASKS[place] == FIXED[place]
 }
 
-// Whether a word has the row of PEXT1, at place 0, or PEXT2, at place 1: SME2 or SVE2p1, and no field condition.
-fn has_pext(place: usize, features: u32, word: u32) -> bool
-    requires { ⌜ place < 2 ⌝ }
-    ensures { λ r. ⌜ r ≡ (matches (layoutAt place) word && pext1Row .features features) ⌝ }
+// Beside its layout each row has features and a field condition, which PEXT has not.
+fn for_pext(features: u32) -> bool
+    ensures { λ r. ⌜ r ≡ pext1Row .features features ⌝ }
 {
-    has_layout(place, word) & setting::has_either(features, Feature::Sme2, Feature::Sve2p1)
+    setting::has_either(features, Feature::Sme2, Feature::Sve2p1)
 }
 
-fn has_dup(features: u32, word: u32) -> bool
-    ensures { λ r. ⌜ r ≡ rowMatches dupRow features word ⌝ }
+fn for_dup(features: u32, word: u32) -> bool
+    ensures { λ r. ⌜ r ≡ (dupRow .features features && dupRow .condition (fieldsOf (dupRow .layout) word)) ⌝ }
 {
-    has_layout(2, word)
-        & setting::has_feature(features, Feature::Sme)
-        & (fields::dup_tsz(word) != 0)
+    setting::has_feature(features, Feature::Sme) & (fields::dup_tsz(word) != 0)
 }
 
-fn has_luti4c(features: u32, word: u32) -> bool
-    ensures { λ r. ⌜ r ≡ rowMatches luti4cRow features word ⌝ }
+fn for_luti4c(features: u32, word: u32) -> bool
+    ensures { λ r. ⌜ r ≡ (luti4cRow .features features && luti4cRow .condition (fieldsOf (luti4cRow .layout) word)) ⌝ }
 {
     let size = word / 0x1000 % 4;
-    has_layout(3, word)
-        & setting::has_feature(features, Feature::Sme2)
-        & ((size == 1) | (size == 2))
+    setting::has_feature(features, Feature::Sme2) & ((size == 1) | (size == 2))
 }
 
-fn has_luti4s(features: u32, word: u32) -> bool
-    ensures { λ r. ⌜ r ≡ rowMatches luti4sRow features word ⌝ }
+fn for_luti4s(features: u32, word: u32) -> bool
+    ensures { λ r. ⌜ r ≡ (luti4sRow .features features && luti4sRow .condition (fieldsOf (luti4sRow .layout) word)) ⌝ }
 {
     let size = word / 0x1000 % 4;
-    has_layout(4, word) & setting::has_feature(features, Feature::Sme2p1) & (size == 1)
+    setting::has_feature(features, Feature::Sme2p1) & (size == 1)
 }
 
-fn has_uqrshrnb(features: u32, word: u32) -> bool
-    ensures { λ r. ⌜ r ≡ rowMatches uqrshrnbRow features word ⌝ }
+fn for_uqrshrnb(features: u32, word: u32) -> bool
+    ensures { λ r. ⌜ r ≡ (uqrshrnbRow .features features && uqrshrnbRow .condition (fieldsOf (uqrshrnbRow .layout) word)) ⌝ }
 {
-    has_layout(5, word)
-        & setting::has_either(features, Feature::Sve2, Feature::Sme)
-        & (fields::narrow_tsz(word) != 0)
+    setting::has_either(features, Feature::Sve2, Feature::Sme) & (fields::narrow_tsz(word) != 0)
 }
 
 fn earlier(hit: bool, place: usize, later: usize) -> usize
@@ -86,34 +79,38 @@ fn earlier(hit: bool, place: usize, later: usize) -> usize
 pub(crate) fn row_of(features: u32, word: u32) -> usize
     ensures { λ r. ⌜ r ≡ placeFirst rows features word ⌝ }
 {
-    let pext1 = has_pext(0, features, word);
-    let pext2 = has_pext(1, features, word);
-    let dup = has_dup(features, word);
-    let luti4c = has_luti4c(features, word);
-    let luti4s = has_luti4s(features, word);
-    let uqrshrnb = has_uqrshrnb(features, word);
+    let pext1 = has_layout(0, word) & for_pext(features);
+    let pext2 = has_layout(1, word) & for_pext(features);
+    let dup = has_layout(2, word) & for_dup(features, word);
+    let luti4c = has_layout(3, word) & for_luti4c(features, word);
+    let luti4s = has_layout(4, word) & for_luti4s(features, word);
+    let uqrshrnb = has_layout(5, word) & for_uqrshrnb(features, word);
     let from_luti4c = earlier(luti4c, 3, earlier(luti4s, 4, earlier(uqrshrnb, 5, 6)));
     earlier(pext1, 0, earlier(pext2, 1, earlier(dup, 2, from_luti4c)))
 }
 
-// The same, by tests that end at the first that holds: in a run the same words come again, and each branch is foreseen.
+// The same, by turns: no word has two layouts, so the first that it has decides. In a run the same words come again, and
+// each branch is foreseen.
 pub(crate) fn row_by_turns(features: u32, word: u32) -> usize
     ensures { λ r. ⌜ r ≡ placeFirst rows features word ⌝ }
 {
-    if has_pext(0, features, word) {
-        return 0;
+    if has_layout(0, word) {
+        return earlier(for_pext(features), 0, 6);
     }
-    if has_pext(1, features, word) {
-        return 1;
+    if has_layout(1, word) {
+        return earlier(for_pext(features), 1, 6);
     }
-    if has_dup(features, word) {
-        return 2;
+    if has_layout(2, word) {
+        return earlier(for_dup(features, word), 2, 6);
     }
-    if has_luti4c(features, word) {
-        return 3;
+    if has_layout(3, word) {
+        return earlier(for_luti4c(features, word), 3, 6);
     }
-    if has_luti4s(features, word) {
-        return 4;
+    if has_layout(4, word) {
+        return earlier(for_luti4s(features, word), 4, 6);
     }
-    if has_uqrshrnb(features, word) { 5 } else { 6 }
+    if has_layout(5, word) {
+        return earlier(for_uqrshrnb(features, word), 5, 6);
+    }
+    6
 }

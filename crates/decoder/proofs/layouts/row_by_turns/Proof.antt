@@ -1,63 +1,117 @@
--- `row_by_turns` meets its contract: where the tests end is known in each case, and so is the first row that matches.
+-- `row_by_turns` meets its contract: the layouts before the one that the word has are ruled out by the tests, those after it because no word has two.
 use mathlib.Core.Path.{sym, _∙_}
-use Rattle.decoder.proofs.Cases.{place-by-tests}
+use Rattle.decoder.proofs.Cases.{place-by-tests, no-other}
 use borrow.Author.Needs.{needs}
 use Rattle.decoder.proofs.layouts.row_by_turns.Statement.{statement}
 use Rattle.decoder.proofs.layouts.row_by_turns.Tie as tie
 
-has-pext-requires : tie.Need-has-pext-requires
-has-pext-requires c κs = search needs
+has-layout-requires : tie.Need-has-layout-requires
+has-layout-requires c κs = search needs
+
+for-pext-requires : tie.Need-for-pext-requires
+for-pext-requires c κs = search needs
+
+earlier-requires : tie.Need-earlier-requires
+earlier-requires c κs = search needs
 
 returns : tie.Need-returns
-returns c = rw (← place-by-tests _ _, sym (c .before .has-pext .ensures) ∙ c .if1 .taken)
+returns c = let y = sym (c .before .before .before .has-layout .ensures) ∙ c .before .before .if1 .taken in
+    rw (← place-by-tests _ _, y, no-other 1 0 _ tt tt tt y, no-other 2 0 _ tt tt tt y, no-other 3 0 _ tt tt tt y, no-other 4 0 _ tt tt tt y, no-other 5 0 _ tt tt tt y, c .earlier .ensures, c .before .for-pext .ensures)
 
-has-pext-requires-2 : tie.Need-has-pext-requires-2
-has-pext-requires-2 c κs = search needs
+has-layout-requires-2 : tie.Need-has-layout-requires-2
+has-layout-requires-2 c κs = search needs
+
+for-pext-requires-2 : tie.Need-for-pext-requires-2
+for-pext-requires-2 c κs = search needs
+
+earlier-requires-2 : tie.Need-earlier-requires-2
+earlier-requires-2 c κs = search needs
 
 returns-2 : tie.Need-returns-2
-returns-2 c = rw (← place-by-tests _ _, sym (c .before .has-pext2 .ensures) ∙ c .if2 .taken, sym (c .before .before .before .has-pext .ensures) ∙ c .before .before .if1 .left)
+returns-2 c = let y = sym (c .before .before .before .has-layout2 .ensures) ∙ c .before .before .if2 .taken in
+    rw (← place-by-tests _ _, sym (c .before .before .before .before .before .has-layout .ensures) ∙ c .before .before .before .before .if1 .left, y, no-other 2 1 _ tt tt tt y, no-other 3 1 _ tt tt tt y, no-other 4 1 _ tt tt tt y, no-other 5 1 _ tt tt tt y, c .earlier2 .ensures, c .before .for-pext2 .ensures)
 
-has-dup-requires : tie.Need-has-dup-requires
-has-dup-requires c κs = search needs
+has-layout-requires-3 : tie.Need-has-layout-requires-3
+has-layout-requires-3 c κs = search needs
+
+for-dup-requires : tie.Need-for-dup-requires
+for-dup-requires c κs = search needs
+
+earlier-requires-3 : tie.Need-earlier-requires-3
+earlier-requires-3 c κs = search needs
 
 returns-3 : tie.Need-returns-3
-returns-3 c = rw (← place-by-tests _ _, sym (c .before .has-dup .ensures) ∙ c .if3 .taken, sym (c .before .before .before .has-pext2 .ensures) ∙ c .before .before .if2 .left, sym (c .before .before .before .before .before .has-pext .ensures) ∙ c .before .before .before .before .if1 .left)
+returns-3 c = let y = sym (c .before .before .before .has-layout3 .ensures) ∙ c .before .before .if3 .taken in
+    rw (← place-by-tests _ _, sym (c .before .before .before .before .before .before .before .has-layout .ensures) ∙ c .before .before .before .before .before .before .if1 .left, sym (c .before .before .before .before .before .has-layout2 .ensures) ∙ c .before .before .before .before .if2 .left, y, no-other 3 2 _ tt tt tt y, no-other 4 2 _ tt tt tt y, no-other 5 2 _ tt tt tt y, c .earlier3 .ensures, c .before .for-dup .ensures)
 
-has-luti4c-requires : tie.Need-has-luti4c-requires
-has-luti4c-requires c κs = search needs
+has-layout-requires-4 : tie.Need-has-layout-requires-4
+has-layout-requires-4 c κs = search needs
+
+for-luti4c-requires : tie.Need-for-luti4c-requires
+for-luti4c-requires c κs = search needs
+
+earlier-requires-4 : tie.Need-earlier-requires-4
+earlier-requires-4 c κs = search needs
 
 returns-4 : tie.Need-returns-4
-returns-4 c = rw (← place-by-tests _ _, sym (c .before .has-luti4c .ensures) ∙ c .if4 .taken, sym (c .before .before .before .has-dup .ensures) ∙ c .before .before .if3 .left, sym (c .before .before .before .before .before .has-pext2 .ensures) ∙ c .before .before .before .before .if2 .left, sym (c .before .before .before .before .before .before .before .has-pext .ensures) ∙ c .before .before .before .before .before .before .if1 .left)
+returns-4 c = let y = sym (c .before .before .before .has-layout4 .ensures) ∙ c .before .before .if4 .taken in
+    rw (← place-by-tests _ _, sym (c .before .before .before .before .before .before .before .before .before .has-layout .ensures) ∙ c .before .before .before .before .before .before .before .before .if1 .left, sym (c .before .before .before .before .before .before .before .has-layout2 .ensures) ∙ c .before .before .before .before .before .before .if2 .left, sym (c .before .before .before .before .before .has-layout3 .ensures) ∙ c .before .before .before .before .if3 .left, y, no-other 4 3 _ tt tt tt y, no-other 5 3 _ tt tt tt y, c .earlier4 .ensures, c .before .for-luti4c .ensures)
 
-has-luti4s-requires : tie.Need-has-luti4s-requires
-has-luti4s-requires c κs = search needs
+has-layout-requires-5 : tie.Need-has-layout-requires-5
+has-layout-requires-5 c κs = search needs
+
+for-luti4s-requires : tie.Need-for-luti4s-requires
+for-luti4s-requires c κs = search needs
+
+earlier-requires-5 : tie.Need-earlier-requires-5
+earlier-requires-5 c κs = search needs
 
 returns-5 : tie.Need-returns-5
-returns-5 c = rw (← place-by-tests _ _, sym (c .before .has-luti4s .ensures) ∙ c .if5 .taken, sym (c .before .before .before .has-luti4c .ensures) ∙ c .before .before .if4 .left, sym (c .before .before .before .before .before .has-dup .ensures) ∙ c .before .before .before .before .if3 .left, sym (c .before .before .before .before .before .before .before .has-pext2 .ensures) ∙ c .before .before .before .before .before .before .if2 .left, sym (c .before .before .before .before .before .before .before .before .before .has-pext .ensures) ∙ c .before .before .before .before .before .before .before .before .if1 .left)
+returns-5 c = let y = sym (c .before .before .before .has-layout5 .ensures) ∙ c .before .before .if5 .taken in
+    rw (← place-by-tests _ _, sym (c .before .before .before .before .before .before .before .before .before .before .before .has-layout .ensures) ∙ c .before .before .before .before .before .before .before .before .before .before .if1 .left, sym (c .before .before .before .before .before .before .before .before .before .has-layout2 .ensures) ∙ c .before .before .before .before .before .before .before .before .if2 .left, sym (c .before .before .before .before .before .before .before .has-layout3 .ensures) ∙ c .before .before .before .before .before .before .if3 .left, sym (c .before .before .before .before .before .has-layout4 .ensures) ∙ c .before .before .before .before .if4 .left, y, no-other 5 4 _ tt tt tt y, c .earlier5 .ensures, c .before .for-luti4s .ensures)
 
-has-uqrshrnb-requires : tie.Need-has-uqrshrnb-requires
-has-uqrshrnb-requires c κs = search needs
+has-layout-requires-6 : tie.Need-has-layout-requires-6
+has-layout-requires-6 c κs = search needs
+
+for-uqrshrnb-requires : tie.Need-for-uqrshrnb-requires
+for-uqrshrnb-requires c κs = search needs
+
+earlier-requires-6 : tie.Need-earlier-requires-6
+earlier-requires-6 c κs = search needs
 
 returns-6 : tie.Need-returns-6
-returns-6 c = rw (← place-by-tests _ _, sym (c .before .has-uqrshrnb .ensures) ∙ c .if6 .taken, sym (c .before .before .before .has-luti4s .ensures) ∙ c .before .before .if5 .left, sym (c .before .before .before .before .before .has-luti4c .ensures) ∙ c .before .before .before .before .if4 .left, sym (c .before .before .before .before .before .before .before .has-dup .ensures) ∙ c .before .before .before .before .before .before .if3 .left, sym (c .before .before .before .before .before .before .before .before .before .has-pext2 .ensures) ∙ c .before .before .before .before .before .before .before .before .if2 .left, sym (c .before .before .before .before .before .before .before .before .before .before .before .has-pext .ensures) ∙ c .before .before .before .before .before .before .before .before .before .before .if1 .left)
+returns-6 c = let y = sym (c .before .before .before .has-layout6 .ensures) ∙ c .before .before .if6 .taken in
+    rw (← place-by-tests _ _, sym (c .before .before .before .before .before .before .before .before .before .before .before .before .before .has-layout .ensures) ∙ c .before .before .before .before .before .before .before .before .before .before .before .before .if1 .left, sym (c .before .before .before .before .before .before .before .before .before .before .before .has-layout2 .ensures) ∙ c .before .before .before .before .before .before .before .before .before .before .if2 .left, sym (c .before .before .before .before .before .before .before .before .before .has-layout3 .ensures) ∙ c .before .before .before .before .before .before .before .before .if3 .left, sym (c .before .before .before .before .before .before .before .has-layout4 .ensures) ∙ c .before .before .before .before .before .before .if4 .left, sym (c .before .before .before .before .before .has-layout5 .ensures) ∙ c .before .before .before .before .if5 .left, y, c .earlier6 .ensures, c .before .for-uqrshrnb .ensures)
 
 returns-7 : tie.Need-returns-7
-returns-7 c = rw (← place-by-tests _ _, sym (c .before .has-uqrshrnb .ensures) ∙ c .if6 .left, sym (c .before .before .before .has-luti4s .ensures) ∙ c .before .before .if5 .left, sym (c .before .before .before .before .before .has-luti4c .ensures) ∙ c .before .before .before .before .if4 .left, sym (c .before .before .before .before .before .before .before .has-dup .ensures) ∙ c .before .before .before .before .before .before .if3 .left, sym (c .before .before .before .before .before .before .before .before .before .has-pext2 .ensures) ∙ c .before .before .before .before .before .before .before .before .if2 .left, sym (c .before .before .before .before .before .before .before .before .before .before .before .has-pext .ensures) ∙ c .before .before .before .before .before .before .before .before .before .before .if1 .left)
+returns-7 c = rw (← place-by-tests _ _, sym (c .before .before .before .before .before .before .before .before .before .before .before .has-layout .ensures) ∙ c .before .before .before .before .before .before .before .before .before .before .if1 .left, sym (c .before .before .before .before .before .before .before .before .before .has-layout2 .ensures) ∙ c .before .before .before .before .before .before .before .before .if2 .left, sym (c .before .before .before .before .before .before .before .has-layout3 .ensures) ∙ c .before .before .before .before .before .before .if3 .left, sym (c .before .before .before .before .before .has-layout4 .ensures) ∙ c .before .before .before .before .if4 .left, sym (c .before .before .before .has-layout5 .ensures) ∙ c .before .before .if5 .left, sym (c .before .has-layout6 .ensures) ∙ c .if6 .left)
 
 pub row-by-turns-spec : {M : Type 1} → statement M
 row-by-turns-spec =
     tie.close
     (tie.spec
-    has-pext-requires
+    has-layout-requires
+    for-pext-requires
+    earlier-requires
     returns
-    has-pext-requires-2
+    has-layout-requires-2
+    for-pext-requires-2
+    earlier-requires-2
     returns-2
-    has-dup-requires
+    has-layout-requires-3
+    for-dup-requires
+    earlier-requires-3
     returns-3
-    has-luti4c-requires
+    has-layout-requires-4
+    for-luti4c-requires
+    earlier-requires-4
     returns-4
-    has-luti4s-requires
+    has-layout-requires-5
+    for-luti4s-requires
+    earlier-requires-5
     returns-5
-    has-uqrshrnb-requires
+    has-layout-requires-6
+    for-uqrshrnb-requires
+    earlier-requires-6
     returns-6
     returns-7)

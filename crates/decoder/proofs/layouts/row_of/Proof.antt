@@ -4,23 +4,41 @@ use borrow.Author.Needs.{needs}
 use Rattle.decoder.proofs.layouts.row_of.Statement.{statement}
 use Rattle.decoder.proofs.layouts.row_of.Tie as tie
 
-has-pext-requires : tie.Need-has-pext-requires
-has-pext-requires c κs = search needs
+has-layout-requires : tie.Need-has-layout-requires
+has-layout-requires c κs = search needs
 
-has-pext-requires-2 : tie.Need-has-pext-requires-2
-has-pext-requires-2 c κs = search needs
+for-pext-requires : tie.Need-for-pext-requires
+for-pext-requires c κs = search needs
 
-has-dup-requires : tie.Need-has-dup-requires
-has-dup-requires c κs = search needs
+has-layout-requires-2 : tie.Need-has-layout-requires-2
+has-layout-requires-2 c κs = search needs
 
-has-luti4c-requires : tie.Need-has-luti4c-requires
-has-luti4c-requires c κs = search needs
+for-pext-requires-2 : tie.Need-for-pext-requires-2
+for-pext-requires-2 c κs = search needs
 
-has-luti4s-requires : tie.Need-has-luti4s-requires
-has-luti4s-requires c κs = search needs
+has-layout-requires-3 : tie.Need-has-layout-requires-3
+has-layout-requires-3 c κs = search needs
 
-has-uqrshrnb-requires : tie.Need-has-uqrshrnb-requires
-has-uqrshrnb-requires c κs = search needs
+for-dup-requires : tie.Need-for-dup-requires
+for-dup-requires c κs = search needs
+
+has-layout-requires-4 : tie.Need-has-layout-requires-4
+has-layout-requires-4 c κs = search needs
+
+for-luti4c-requires : tie.Need-for-luti4c-requires
+for-luti4c-requires c κs = search needs
+
+has-layout-requires-5 : tie.Need-has-layout-requires-5
+has-layout-requires-5 c κs = search needs
+
+for-luti4s-requires : tie.Need-for-luti4s-requires
+for-luti4s-requires c κs = search needs
+
+has-layout-requires-6 : tie.Need-has-layout-requires-6
+has-layout-requires-6 c κs = search needs
+
+for-uqrshrnb-requires : tie.Need-for-uqrshrnb-requires
+for-uqrshrnb-requires c κs = search needs
 
 earlier-requires : tie.Need-earlier-requires
 earlier-requires c κs = search needs
@@ -48,12 +66,18 @@ returns c = rw (
   c .before .before .before .earlier3 .ensures,
   c .before .before .before .before .earlier2 .ensures,
   c .before .before .before .before .before .earlier .ensures,
-  c .before .before .before .before .before .before .has-uqrshrnb .ensures,
-  c .before .before .before .before .before .before .before .has-luti4s .ensures,
-  c .before .before .before .before .before .before .before .before .has-luti4c .ensures,
-  c .before .before .before .before .before .before .before .before .before .has-dup .ensures,
-  c .before .before .before .before .before .before .before .before .before .before .has-pext2 .ensures,
-  c .before .before .before .before .before .before .before .before .before .before .before .has-pext .ensures,
+  c .before .before .before .before .before .before .for-uqrshrnb .ensures,
+  c .before .before .before .before .before .before .before .has-layout6 .ensures,
+  c .before .before .before .before .before .before .before .before .for-luti4s .ensures,
+  c .before .before .before .before .before .before .before .before .before .has-layout5 .ensures,
+  c .before .before .before .before .before .before .before .before .before .before .for-luti4c .ensures,
+  c .before .before .before .before .before .before .before .before .before .before .before .has-layout4 .ensures,
+  c .before .before .before .before .before .before .before .before .before .before .before .before .for-dup .ensures,
+  c .before .before .before .before .before .before .before .before .before .before .before .before .before .has-layout3 .ensures,
+  c .before .before .before .before .before .before .before .before .before .before .before .before .before .before .for-pext2 .ensures,
+  c .before .before .before .before .before .before .before .before .before .before .before .before .before .before .before .has-layout2 .ensures,
+  c .before .before .before .before .before .before .before .before .before .before .before .before .before .before .before .before .for-pext .ensures,
+  c .before .before .before .before .before .before .before .before .before .before .before .before .before .before .before .before .before .has-layout .ensures,
 )
     (place-by-tests _ _)
 
@@ -61,12 +85,18 @@ pub row-of-spec : {M : Type 1} → statement M
 row-of-spec =
     tie.close
     (tie.spec
-    has-pext-requires
-    has-pext-requires-2
-    has-dup-requires
-    has-luti4c-requires
-    has-luti4s-requires
-    has-uqrshrnb-requires
+    has-layout-requires
+    for-pext-requires
+    has-layout-requires-2
+    for-pext-requires-2
+    has-layout-requires-3
+    for-dup-requires
+    has-layout-requires-4
+    for-luti4c-requires
+    has-layout-requires-5
+    for-luti4s-requires
+    has-layout-requires-6
+    for-uqrshrnb-requires
     earlier-requires
     earlier-requires-2
     earlier-requires-3
