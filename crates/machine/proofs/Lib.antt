@@ -1,5 +1,6 @@
 pub mod Operations
 pub mod Inside
 pub mod Steps
+pub mod Runs
 pub mod Registers
 pub mod BoardPoints

@@ -2,14 +2,14 @@
 use mathlib.Core.Path.{_≡_}
 use mathlib.Core.Bool.{true}
 use Prim.Native.Nat.{ℕ, zero, suc}
-use Rattle.setting.specs.Allowed.{lengthAllowed}
+use Rattle.setting.specs.Allowed.{lengthAllowed, allowedOf}
 use Rattle.order.specs.Touch.{gets, puts}
 use Rattle.encoding.specs.Instructions.{inRange}
 use Rattle.encoding.specs.declared.Instruction.{Instruction}
 use Rattle.machine.specs.Machine.{Machine, get, put, next}
 use Rattle.machine.specs.Touched.{readsOf, writesOf}
 use Rattle.machine.specs.Gives.{givesOf}
-use Rattle.machine.specs.Step.{Step, firstFailed, needsOf}
+use Rattle.machine.specs.Step.{Step, sized, firstFailed, needsOf}
 use Rattle.setting.specs.declared.Setting.{Setting}
 
 unfoldable pub doneOf : ℕ → Instruction → Machine → Machine
@@ -30,3 +30,8 @@ executed (suc k) vl i m = record { number = suc k; left = m }
 
 unfoldable pub executedOf : Setting → Instruction → Machine → Step
 executedOf s i m = executed (firstFailed (needsOf s i (m .scalars))) (s .vl) i m
+
+-- the tests that come before a word: 1 and 2
+pub record Checked (s : Setting) (m : Machine) : Type 0 where
+  pub allowed : allowedOf s ≡ true
+  pub files : sized m ≡ true

@@ -1,4 +1,4 @@
-// One step of the machine: a word read, its access tested, its operation done on the lent files, and PC advanced.
+// One step of the machine, and a run of them: a word read, its access tested, its operation done on the lent files, and PC advanced.
 mod access;
 mod operate;
 
@@ -7,8 +7,10 @@ ghost use mathlib.Core.Bool.{_&&_};
 ghost use lib.Dec.{eqb};
 ghost use Rattle.machine.specs.Machine.{machine, advanced};
 ghost use lib.ListN.{length};
-ghost use Rattle.machine.specs.Step.{stepOf, steppedAs};
-ghost use Rattle.machine.specs.Done.{Ready, executedOf};
+ghost use Rattle.order.specs.Steps.{steps};
+ghost use Rattle.machine.specs.Step.{refusalOf, execOf, stepOf, steppedAs};
+ghost use Rattle.machine.specs.Run.{runOf, ranAs};
+ghost use Rattle.machine.specs.Done.{Ready, Checked, executedOf};
 ghost use Rattle.machine.specs.Claims.{Claims};
 use encoding::Decoded;
 use encoding::Instruction;
@@ -30,6 +32,13 @@ pub struct Scalars {
 
 pub struct Stepped {
     pub answer: Answer,
+    pub scalars: Scalars,
+}
+
+// The answer of a run, and how many words were done.
+pub struct Ran {
+    pub answer: Answer,
+    pub done: usize,
     pub scalars: Scalars,
 }
 
@@ -71,6 +80,24 @@ fn execute(
     }
 }
 
+// One word, where the setting is allowed and each file has its length.
+fn checked_step(
+    z: &mut [u8],
+    p: &mut [u8],
+    zt: &[u8],
+    scalars: Scalars,
+    setting: Setting,
+    word: u32,
+) -> Stepped
+    requires { ⌜ Checked setting (machine (now z) (now p) (now zt) scalars) ⌝ }
+    ensures { λ r. ⌜ steppedAs r (now (z .exit)) (now (p .exit)) (now (zt .entry)) ≡ stepOf setting word (machine (now (z .entry)) (now (p .entry)) (now (zt .entry)) scalars) ⌝ }
+{
+    match decoder::decode(setting, word) {
+        Decoded::Fields(instruction) => execute(z, p, zt, scalars, setting, instruction),
+        Decoded::Refused(answer) => Stepped { answer, scalars },
+    }
+}
+
 // One word. ZT0 is lent for words to come that write it; today it stays.
 pub fn step(
     z: &mut [u8],
@@ -94,10 +121,74 @@ pub fn step(
             scalars,
         };
     }
-    match decoder::decode(setting, word) {
-        Decoded::Fields(instruction) => execute(z, p, zt, scalars, setting, instruction),
-        Decoded::Refused(answer) => Stepped { answer, scalars },
+    checked_step(z, p, zt, scalars, setting, word)
+}
+
+// The words from the first, up to one that is refused.
+fn checked_run(
+    z: &mut [u8],
+    p: &mut [u8],
+    zt: &[u8],
+    scalars: Scalars,
+    setting: Setting,
+    words: &[u32],
+) -> Ran
+    requires { ⌜ Checked setting (machine (now z) (now p) (now zt) scalars) ⌝ }
+    ensures { λ r. ⌜ ranAs r (now (z .exit)) (now (p .exit)) (now (zt .entry)) ≡ steps (refusalOf setting) (execOf setting) (now (words .entry)) 0 (machine (now (z .entry)) (now (p .entry)) (now (zt .entry)) scalars) ⌝ }
+{
+    let mut held = scalars;
+    let mut done: usize = 0;
+    while done < words.len() {
+        let r = checked_step(&mut *z, &mut *p, zt, held, setting, words[done]);
+        let answer = r.answer;
+        held = r.scalars;
+        if setting::number(answer) != 0 {
+            return Ran {
+                answer,
+                done,
+                scalars: held,
+            };
+        }
+        done += 1;
     }
+    Ran {
+        answer: Answer::Done,
+        done,
+        scalars: held,
+    }
+}
+
+fn not_begun(answer: Answer, scalars: Scalars) -> Ran
+    ensures { λ r. ⌜ r ≡ record { answer = answer; done = 0; scalars = scalars } ⌝ }
+{
+    Ran {
+        answer,
+        done: 0,
+        scalars,
+    }
+}
+
+// A stretch of at most 256 words, stepped one after the other; it stops before the first that is refused.
+pub fn run(
+    z: &mut [u8],
+    p: &mut [u8],
+    zt: &mut [u8],
+    scalars: Scalars,
+    setting: Setting,
+    words: &[u32],
+) -> Ran
+    ensures { λ r. ⌜ ranAs r (now (z .exit)) (now (p .exit)) (now (zt .exit)) ≡ runOf setting (now (words .entry)) (machine (now (z .entry)) (now (p .entry)) (now (zt .entry)) scalars) ⌝ }
+{
+    if !setting::allowed(setting) {
+        return not_begun(Answer::NotAllowed, scalars);
+    }
+    if !sized(z.len(), p.len(), zt.len()) {
+        return not_begun(Answer::WrongLength, scalars);
+    }
+    if words.len() > 256 {
+        return not_begun(Answer::TooManyWords, scalars);
+    }
+    checked_run(z, p, zt, scalars, setting, words)
 }
 
 // The theorems about these definitions. It does nothing: its promise has the check demand their proofs.

@@ -14,7 +14,7 @@ use Rattle.order.proofs.Runs.{done-whole}
 use Rattle.order.proofs.Reordered.{same-end}
 use Rattle.machine.specs.Machine.{Machine}
 use Rattle.machine.specs.Step.{refusalOf, execOf}
-use Rattle.stretch.specs.Run.{refusedBefore, begun, runOf}
+use Rattle.machine.specs.Run.{refusedBefore, begun, runOf}
 use Rattle.stretch.specs.Conflict.{conflict}
 use Rattle.stretch.specs.Claims.{Orders, BeforeAnyWord, WholeDone}
 use Rattle.stretch.proofs.Kept.{words-independent}

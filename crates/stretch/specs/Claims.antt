@@ -10,7 +10,7 @@ use Rattle.setting.specs.declared.Setting.{Setting}
 use Rattle.order.specs.Rearranged.{Rearrangement, Permitted, rearranged}
 use Rattle.machine.specs.Machine.{Machine}
 use Rattle.machine.specs.Step.{sized, writes}
-use Rattle.stretch.specs.Run.{undone, runOf}
+use Rattle.machine.specs.Run.{undone, runOf}
 use Rattle.stretch.specs.Conflict.{conflict, isRead, conflictOf}
 use Rattle.stretch.specs.Permission.{permittedOf, Permission}
 

@@ -1,4 +1,3 @@
-pub mod Run
 pub mod Conflict
 pub mod Permission
 pub mod Claims

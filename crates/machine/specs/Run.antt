@@ -4,10 +4,12 @@ use Prim.Native.Nat.{ℕ, zero, suc}
 use lib.Dec.{leb}
 use lib.ListN.{length}
 use Rattle.setting.specs.Allowed.{allowedOf}
+use Rattle.setting.specs.Numbers.{numberOf}
 use Rattle.setting.specs.declared.Setting.{Setting}
 use Rattle.order.specs.Steps.{Ended, steps}
-use Rattle.machine.specs.Machine.{Machine}
+use Rattle.machine.specs.Machine.{Machine, machine}
 use Rattle.machine.specs.Step.{sized, firstFailed, need, refusalOf, execOf}
+use Rattle.machine.specs.declared.Ran.{Ran}
 
 -- the number that a run is refused with before any word, or 0
 abbrev pub refusedBefore : Setting → List ℕ → Machine → ℕ
@@ -24,3 +26,7 @@ begun (suc k) s words m = undone (suc k) m
 
 unfoldable pub runOf : Setting → List ℕ → Machine → Ended Machine
 runOf s words m = begun (refusedBefore s words m) s words m
+
+-- the number, the words done and the values of what `run` answers, with the files at exit
+abbrev pub ranAs : Ran → List ℕ → List ℕ → List ℕ → Ended Machine
+ranAs r z p zt = record { answer = numberOf (r .answer); done = r .done; left = machine z p zt (r .scalars) }

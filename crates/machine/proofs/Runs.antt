@@ -1,0 +1,78 @@
+-- What a run is in each case that the code meets: what is left of the stretch, stepped from where the loop stands, ends as the whole does.
+use mathlib.Core.Path.{_≡_, refl, sym, ap, _∙_}
+use mathlib.Core.Bool.{true, false}
+use mathlib.Core.List.{List, _∷_}
+use Prim.Native.Nat.{ℕ, zero, suc, _+_, _<_, _≤_}
+use native.Mathlib.Numerals.{add-one}
+use lib.Dec.{leb}
+use lib.ListN.{length, getD, drop, drop-of-length-le}
+use lib.Seq.{drop-cons}
+use borrow.Author.Tests.{le-leb, lt-leb}
+use Rattle.setting.specs.Allowed.{allowedOf}
+use Rattle.setting.specs.declared.Setting.{Setting}
+use Rattle.order.specs.Steps.{Ended, steps}
+use Rattle.machine.specs.Machine.{Machine, machine}
+use Rattle.machine.specs.Step.{Step, sized, refusalOf, execOf, after, stepOf}
+use Rattle.machine.specs.Run.{undone, runOf}
+use Rattle.machine.specs.Done.{Checked}
+use Rattle.machine.specs.declared.Scalars.{Scalars}
+
+-- ---- one word more
+module _ (s : Setting) (words : List ℕ) (i a : ℕ) (m m′ : Machine) (e : Ended Machine)
+    (have : i < length words) (one : _≡_ {A = Step} (record { number = a; left = m′ }) (stepOf s (getD words i 0) m))
+    (left : steps (refusalOf s) (execOf s) (drop i words) i m ≡ e) where
+  opened : steps (refusalOf s) (execOf s) (getD words i 0 ∷ drop (suc i) words) i m ≡ e
+  opened = rw (drop-cons words i 0 have) at left
+
+  number-is : (k : ℕ) → refusalOf s (getD words i 0) m ≡ k → a ≡ k
+  unfolding stepOf
+  number-is zero r = ap (λ (x : Step). x .number) one ∙ rw r
+  number-is (suc k) r = ap (λ (x : Step). x .number) one ∙ rw r
+
+  pub stopped : (a ≡ 0 → ⊥) → _≡_ {A = Ended Machine} (record { answer = a; done = i; left = m′ }) e
+  unfolding steps stepOf
+  stopped n = go (refusalOf s (getD words i 0) m) refl
+    where
+      go : (k : ℕ) → refusalOf s (getD words i 0) m ≡ k → _≡_ {A = Ended Machine} (record { answer = a; done = i; left = m′ }) e
+      go zero r = absurd (n (number-is zero r))
+      go (suc k) r =
+          let t : _≡_ {A = Ended Machine} (record { answer = suc k; done = i; left = m }) e = rw (r, steps) at opened in
+          let u : _≡_ {A = Step} (record { number = a; left = m′ }) (record { number = suc k; left = m }) = rw r at one in
+          ap (λ (x : Step). record { answer = x .number; done = i; left = x .left }) u ∙ t
+
+  pub went-on : a ≡ 0 → steps (refusalOf s) (execOf s) (drop (i + 1) words) (i + 1) m′ ≡ e
+  unfolding steps stepOf
+  went-on z =
+      let r : refusalOf s (getD words i 0) m ≡ 0 = sym (number-is (refusalOf s (getD words i 0) m) refl) ∙ z in
+      let t : steps (refusalOf s) (execOf s) (drop (suc i) words) (suc i) (execOf s (getD words i 0) m) ≡ e = rw (r, steps) at opened in
+      let u : m′ ≡ execOf s (getD words i 0) m = ap (λ (x : Step). x .left) one ∙ rw r in
+      rw (add-one, u) t
+
+pub ended : (s : Setting) (words : List ℕ) (i : ℕ) (m : Machine) (e : Ended Machine) → length words ≤ i → steps (refusalOf s) (execOf s) (drop i words) i m ≡ e
+    → _≡_ {A = Ended Machine} (record { answer = 0; done = i; left = m }) e
+unfolding steps
+ended s words i m e h q = rw (drop-of-length-le words {i = i} h) at q
+
+-- ---- before any word
+module _ (s : Setting) (words : List ℕ) (m : Machine) where
+  pub run-not-allowed : allowedOf s ≡ false → undone 1 m ≡ runOf s words m
+  unfolding runOf
+  run-not-allowed a = rw a
+
+  module _ (a : allowedOf s ≡ true) where
+    pub run-not-sized : sized m ≡ false → undone 2 m ≡ runOf s words m
+    unfolding runOf
+    run-not-sized h = rw (a, h)
+
+    module _ (h : sized m ≡ true) where
+      pub run-too-long : 256 < length words → undone 8 m ≡ runOf s words m
+      unfolding runOf
+      run-too-long l = rw (a, h, lt-leb (length words) 256 l)
+
+      pub run-begun : length words ≤ 256 → steps (refusalOf s) (execOf s) words 0 m ≡ runOf s words m
+      unfolding runOf
+      run-begun l = rw (a, h, le-leb (length words) 256 l)
+
+-- ---- the files keep their lengths
+pub still-checked : (s : Setting) (z p zt z′ p′ : List ℕ) (c c′ : Scalars) → length z′ ≡ length z → length p′ ≡ length p → Checked s (machine z p zt c) → Checked s (machine z′ p′ zt c′)
+still-checked s z p zt z′ p′ c c′ ez ep k = record { allowed = k .allowed; files = rw (ez, ep) (k .files) }
