@@ -4,6 +4,7 @@ use mathlib.Core.Bool.{true, false}
 use mathlib.Core.List.{List, _∷_}
 use Prim.Native.Nat.{ℕ, zero, suc, _+_, _<_, _≤_}
 use native.Mathlib.Numerals.{add-one}
+use native.Mathlib.Omega.{arith}
 use lib.Dec.{leb}
 use lib.ListN.{length, getD, drop, drop-of-length-le}
 use lib.Seq.{drop-cons}
@@ -48,10 +49,10 @@ module _ (s : Setting) (words : List ℕ) (i a : ℕ) (m m′ : Machine) (e : En
       let u : m′ ≡ execOf s (getD words i 0) m = ap (λ (x : Step). x .left) one ∙ rw r in
       rw (add-one, u) t
 
-pub ended : (s : Setting) (words : List ℕ) (i : ℕ) (m : Machine) (e : Ended Machine) → length words ≤ i → steps (refusalOf s) (execOf s) (drop i words) i m ≡ e
-    → _≡_ {A = Ended Machine} (record { answer = 0; done = i; left = m }) e
+pub ended : (s : Setting) (words : List ℕ) (i : ℕ) (m : Machine) (e : Ended Machine) → i ≡ length words → steps (refusalOf s) (execOf s) (drop i words) i m ≡ e
+    → _≡_ {A = Ended Machine} (record { answer = 0; done = length words; left = m }) e
 unfolding steps
-ended s words i m e h q = rw (drop-of-length-le words {i = i} h) at q
+ended s words i m e h q = rw (h, drop-of-length-le words {i = length words} (omega arith)) at q
 
 -- ---- before any word
 module _ (s : Setting) (words : List ℕ) (m : Machine) where

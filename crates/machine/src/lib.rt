@@ -153,7 +153,7 @@ fn checked_run(
     }
     Ran {
         answer: Answer::Done,
-        done,
+        done: words.len(),
         scalars: held,
     }
 }
