@@ -1,6 +1,12 @@
--- Document 01, "Setting": the two loose numbers of a C call as a setting.
+-- Document 01, "Setting" and "Numbers the bench answers with": the two loose numbers of a C call as a setting, and an outcome's number.
 use Prim.Native.Nat.{ℕ}
+use Rattle.setting.specs.Numbers.{Outcome, accept, refuse}
 use Rattle.setting.specs.declared.Setting.{Setting}
 
 abbrev pub settingOf : ℕ → ℕ → Setting
 settingOf vl features = record { vl = vl; features = features }
+
+-- 0 for what is accepted
+abbrev pub numberIn : {A : Type 0} → Outcome A → ℕ
+numberIn (accept a) = 0
+numberIn (refuse n) = n

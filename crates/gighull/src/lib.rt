@@ -1,13 +1,26 @@
-// The C interface: numbers, byte slices (a pointer, then a length) and the scalar record cross it. include/gighull.h declares it for C.
+// The C interface: numbers, slices (a pointer, then a length) and the scalar record cross it. include/gighull.h declares it for C.
+// A function answers document 01's number, and leaves its values in what is lent to it.
+mod fields;
+
 ghost use mathlib.Core.Path.{_≡_};
+ghost use Rattle.setting.specs.Numbers.{numberOf};
 ghost use Rattle.machine.specs.Machine.{machine};
 ghost use Rattle.machine.specs.Step.{stepOf};
+ghost use Rattle.encoding.specs.Decode.{decodeOf};
+ghost use Rattle.encoding.specs.Encode.{encodedAs};
+ghost use Rattle.listing.specs.Buffer.{Wrote, listedOf, outOf};
 ghost use Rattle.console.specs.Lent.{stepAs};
-ghost use Rattle.gighull.specs.Numbers.{settingOf};
+ghost use Rattle.console.specs.Parts.{vectorOf, predicateOf};
+ghost use Rattle.gighull.specs.Numbers.{settingOf, numberIn};
+ghost use Rattle.gighull.specs.Fields.{readInto, refusedOf, writeOf, writtenAs};
+ghost use Rattle.gighull.specs.Buffers.{fitting, listedAs};
+use encoding::Decoded;
+use encoding::Encoded;
 use machine::Scalars;
+use setting::Answer;
 use setting::Setting;
 
-// One word on the lent machine. The record is advanced where it stands. Answers document 01's number.
+// One word on the lent machine. The record is advanced where it stands.
 #[no_mangle]
 pub extern "C" fn gighull_step(
     z: &mut [u8],
@@ -22,4 +35,89 @@ pub extern "C" fn gighull_step(
 {
     let answer = console::step_lent(z, p, zt, scalars, Setting { vl, features }, word);
     setting::number(answer)
+}
+
+// What a word is read as: seven numbers, the form's place in the table first.
+#[no_mangle]
+pub extern "C" fn gighull_decode(vl: u32, features: u32, word: u32, fields: &mut [u32]) -> u32
+    ensures { λ r. ⌜ (r ≡ numberIn (decodeOf (settingOf vl features) word)) × (now (fields .exit) ≡ readInto (decodeOf (settingOf vl features) word) (now (fields .entry))) ⌝ }
+{
+    let decoded = decoder::decode(Setting { vl, features }, word);
+    match decoded {
+        Decoded::Fields(instruction) => {
+            fields::put(instruction, fields);
+            0
+        }
+        Decoded::Refused(answer) => setting::number(answer),
+    }
+}
+
+// A refused writing, for a setting that is not allowed before anything else.
+fn unwritten(setting: Setting, answer: Answer) -> Encoded
+    ensures { λ r. ⌜ encodedAs r ≡ refusedOf setting (numberOf answer) ⌝ }
+{
+    if !setting::allowed(setting) {
+        return Encoded {
+            answer: Answer::NotAllowed,
+            word: 0,
+        };
+    }
+    Encoded { answer, word: 0 }
+}
+
+fn written(setting: Setting, fields: &[u32]) -> Encoded
+    ensures { λ r. ⌜ encodedAs r ≡ writeOf setting (now (fields .entry)) ⌝ }
+{
+    let read = fields::instruction(fields);
+    match read {
+        Decoded::Fields(instruction) => encoder::encode(setting, instruction),
+        Decoded::Refused(answer) => unwritten(setting, answer),
+    }
+}
+
+// The word that seven numbers are written as.
+#[no_mangle]
+pub extern "C" fn gighull_encode(vl: u32, features: u32, fields: &[u32], word: &mut u32) -> u32
+    ensures { λ r. ⌜ writtenAs r (now (word .exit)) ≡ writeOf (settingOf vl features) (now (fields .entry)) ⌝ }
+{
+    let encoded = written(Setting { vl, features }, fields);
+    let answer = encoded.answer;
+    *word = encoded.word;
+    setting::number(answer)
+}
+
+// A part into a buffer that has room for it.
+fn copied(part: &[u8], out: &mut [u8]) -> usize
+    ensures { λ r. ⌜ Wrote (fitting (now (part .entry)) (now (out .entry))) (now (out .entry)) (now (out .exit)) r ⌝ }
+{
+    if out.len() < part.len() {
+        return 0;
+    }
+    bytes::copy(part, out)
+}
+
+// The bytes of a Z register, and how many they are.
+#[no_mangle]
+pub extern "C" fn gighull_vector(file: &[u8], vl: u32, register: u32, out: &mut [u8]) -> usize
+    ensures { λ r. ⌜ Wrote (fitting (vectorOf (now (file .entry)) vl register) (now (out .entry))) (now (out .entry)) (now (out .exit)) r ⌝ }
+{
+    copied(console::vector(file, vl, register), out)
+}
+
+// The bytes of a P register, and how many they are.
+#[no_mangle]
+pub extern "C" fn gighull_predicate(file: &[u8], vl: u32, register: u32, out: &mut [u8]) -> usize
+    ensures { λ r. ⌜ Wrote (fitting (predicateOf (now (file .entry)) vl register) (now (out .entry))) (now (out .entry)) (now (out .exit)) r ⌝ }
+{
+    copied(console::predicate(file, vl, register), out)
+}
+
+// The lines of as much input as surely fits: how much was read, and how much text that gave.
+#[no_mangle]
+pub extern "C" fn gighull_lines(input: &[u8], out: &mut [u8], written: &mut usize) -> usize
+    ensures { λ r. ⌜ (listedAs r (now (written .exit)) ≡ listedOf (now (input .entry)) (now (out .entry))) × (now (out .exit) ≡ outOf (now (input .entry)) (now (out .entry))) ⌝ }
+{
+    let listed = listing::lines(input, out);
+    *written = listed.written;
+    listed.read
 }

@@ -1,0 +1,32 @@
+-- `named` meets its contract: in each arm the form is known.
+use borrow.Author.Tests.{ne-eqb}
+use Rattle.gighull.proofs.fields.named.Statement.{statement}
+use Rattle.gighull.proofs.fields.named.Tie as tie
+
+returns : tie.Need-returns
+returns c = rw (c .match .keys1)
+
+returns-2 : tie.Need-returns-2
+returns-2 c = rw (c .match .keys2)
+
+returns-3 : tie.Need-returns-3
+returns-3 c = rw (c .match .keys3)
+
+returns-4 : tie.Need-returns-4
+returns-4 c = rw (c .match .keys4)
+
+returns-5 : tie.Need-returns-5
+returns-5 c = rw (c .match .keys5)
+
+returns-6 : tie.Need-returns-6
+returns-6 c = rw (c .match .keys6)
+
+returns-7 : tie.Need-returns-7
+returns-7 c =
+    let n = c .match .rest in
+    let form = c .before .args .form in
+    rw (ne-eqb form 0 (n .0 .0 .0 .0 .0 .1), ne-eqb form 1 (n .0 .0 .0 .0 .1), ne-eqb form 2 (n .0 .0 .0 .1), ne-eqb form 3 (n .0 .0 .1), ne-eqb form 4 (n .0 .1), ne-eqb form 5 (n .1))
+
+pub named-spec : {M : Type 1} → statement M
+named-spec =
+    tie.close (tie.spec returns returns-2 returns-3 returns-4 returns-5 returns-6 returns-7)

@@ -1,0 +1,124 @@
+// An instruction as seven numbers, and back.
+ghost use mathlib.Core.Path.{_≡_};
+ghost use Rattle.setting.specs.Numbers.{accept};
+ghost use Rattle.encoding.specs.Decode.{decodedAs};
+ghost use Rattle.gighull.specs.Fields.{numbersOf, readInto, instructionAt, instructionOf};
+use encoding::Decoded;
+use encoding::Instruction;
+use setting::Answer;
+
+fn numbers(instruction: Instruction) -> [u32; 7]
+    ensures { λ r. ⌜ r ≡ numbersOf instruction ⌝ }
+{
+    match instruction {
+        Instruction::Pext1 {
+            size,
+            imm2,
+            counter,
+            pd,
+        } => [0, size, imm2, counter, pd, 0, 0],
+        Instruction::Pext2 {
+            size,
+            i1,
+            counter,
+            pd,
+        } => [1, size, i1, counter, pd, 0, 0],
+        Instruction::Dup {
+            size,
+            offset,
+            index,
+            pg,
+            pn,
+            pd,
+        } => [2, size, offset, index, pg, pn, pd],
+        Instruction::Luti4c { size, i1, zn, zd } => [3, size, i1, zn, zd, 0, 0],
+        Instruction::Luti4s { size, i1, zn, zd } => [4, size, i1, zn, zd, 0, 0],
+        Instruction::Uqrshrnb {
+            size,
+            shift,
+            zn,
+            zd,
+        } => [5, size, shift, zn, zd, 0, 0],
+    }
+}
+
+// Into a buffer of seven; another stays as it was.
+pub(crate) fn put(instruction: Instruction, out: &mut [u32])
+    ensures { λ _. ⌜ now (out .exit) ≡ readInto (accept instruction) (now (out .entry)) ⌝ }
+{
+    if out.len() != 7 {
+        return;
+    }
+    let n = numbers(instruction);
+    out[0] = n[0];
+    out[1] = n[1];
+    out[2] = n[2];
+    out[3] = n[3];
+    out[4] = n[4];
+    out[5] = n[5];
+    out[6] = n[6];
+}
+
+// The instruction of a form with these fields; a form has at most six.
+fn named(form: u32, a: u32, b: u32, c: u32, d: u32, e: u32, f: u32) -> Decoded
+    ensures { λ r. ⌜ decodedAs r ≡ instructionAt form a b c d e f ⌝ }
+{
+    match form {
+        0 => Decoded::Fields(Instruction::Pext1 {
+            size: a,
+            imm2: b,
+            counter: c,
+            pd: d,
+        }),
+        1 => Decoded::Fields(Instruction::Pext2 {
+            size: a,
+            i1: b,
+            counter: c,
+            pd: d,
+        }),
+        2 => Decoded::Fields(Instruction::Dup {
+            size: a,
+            offset: b,
+            index: c,
+            pg: d,
+            pn: e,
+            pd: f,
+        }),
+        3 => Decoded::Fields(Instruction::Luti4c {
+            size: a,
+            i1: b,
+            zn: c,
+            zd: d,
+        }),
+        4 => Decoded::Fields(Instruction::Luti4s {
+            size: a,
+            i1: b,
+            zn: c,
+            zd: d,
+        }),
+        5 => Decoded::Fields(Instruction::Uqrshrnb {
+            size: a,
+            shift: b,
+            zn: c,
+            zd: d,
+        }),
+        _ => Decoded::Refused(Answer::OutOfRange),
+    }
+}
+
+pub(crate) fn instruction(fields: &[u32]) -> Decoded
+    ensures { λ r. ⌜ decodedAs r ≡ instructionOf (now (fields .entry)) ⌝ }
+{
+    if fields.len() != 7 {
+        return Decoded::Refused(Answer::OutOfRange);
+    }
+    named(
+        fields[0],
+        fields[1],
+        fields[2],
+        fields[3],
+        fields[4],
+        fields[5],
+        fields[6],
+    )
+}

@@ -1,0 +1,63 @@
+/* The proved library's C interface: crates/gighull, built by `rt staticlib gighull` to target/staticlib/libgighull.a.
+ * A slice is a pointer and a length (in elements). A pointer of length 0 is not read. Slices that are lent for writing
+ * overlap no other argument. A function that answers a number answers document 01's; it asks nothing of its arguments.
+ */
+#ifndef GIGHULL_H
+#define GIGHULL_H
+
+#include <stdbool.h>
+#include <stddef.h>
+#include <stdint.h>
+
+#ifdef __cplusplus
+extern "C" {
+#endif
+
+/* W12 to W15, PC, and the access flags: V, S and T. */
+struct gighull_scalars {
+    uint32_t w12;
+    uint32_t w13;
+    uint32_t w14;
+    uint32_t w15;
+    uint64_t pc;
+    bool v;
+    bool s;
+    bool t;
+};
+
+/* One word on the lent machine (8192, 512 and 64 bytes). The record is advanced where it stands. Answers 0 to 7; where
+ * that is not 0, nothing has changed. */
+uint32_t gighull_step(uint8_t *z, size_t z_len, uint8_t *p, size_t p_len, uint8_t *zt, size_t zt_len,
+                      struct gighull_scalars *scalars, uint32_t vl, uint32_t features, uint32_t word);
+
+/* What a word is read as. Answers 0, 1 or 3; where it is 0, `fields` holds seven numbers:
+ *
+ *   0 PEXT1     size imm2 counter Pd 0 0          3 LUTI4C    size i1 Zn Zd 0 0
+ *   1 PEXT2     size i1 counter Pd 0 0            4 LUTI4S    size i1 Zn Zd 0 0
+ *   2 DUP       size offset index Pg Pn Pd        5 UQRSHRNB  size shift Zn Zd 0 0
+ *
+ * `fields` stays as it was where the answer is not 0, and where its length is not 7 (the answer is the same). */
+uint32_t gighull_decode(uint32_t vl, uint32_t features, uint32_t word, uint32_t *fields, size_t fields_len);
+
+/* The word that seven numbers are written as. Answers 0, 1, 9 or 3; where it is not 0, `*word` is 0. A form above 5 and
+ * a list of another length than 7 are 9. Of a form with four fields the last two numbers are not looked at. */
+uint32_t gighull_encode(uint32_t vl, uint32_t features, const uint32_t *fields, size_t fields_len, uint32_t *word);
+
+/* The VL/8 (VL/64) bytes of a Z (P) register of a vector (predicate) file, at the start of `out`; answers how many. The
+ * rest of `out` stays. 0, and `out` as it was, for a register number too high, a bad VL, a file of wrong length, or an
+ * `out` that is shorter than the register's bytes. */
+size_t gighull_vector(const uint8_t *file, size_t file_len, uint32_t vl, uint32_t register_number, uint8_t *out,
+                      size_t out_len);
+size_t gighull_predicate(const uint8_t *file, size_t file_len, uint32_t vl, uint32_t register_number, uint8_t *out,
+                         size_t out_len);
+
+/* The listing of records of four bytes, at the start of `out`. Reads as many records as `out` has 19 bytes for, and
+ * where that is all of them, the bytes left over too. Answers how many bytes were read; `*written` is the length of the
+ * text. The rest of `out` stays. */
+size_t gighull_lines(const uint8_t *input, size_t input_len, uint8_t *out, size_t out_len, size_t *written);
+
+#ifdef __cplusplus
+}
+#endif
+
+#endif

@@ -1,0 +1,251 @@
+//! The proved library, over its C interface, against the reference.
+
+use gighull::Scalars;
+use reference::encode::encode;
+use reference::instruction::{Form, Instruction};
+use reference::machine::{Flags, Machine};
+use reference::random::Random;
+use reference::refusal::number_of;
+use reference::samples::{
+    failing_word, fields_in_range, listing_words, matching_word, near_miss, values_outside,
+};
+use reference::setting::{ALL_FEATURES, Setting, VECTOR_LENGTHS};
+use reference::step_questions;
+use reference::stretches::{any_machine, any_setting};
+
+fn any_flags(random: &mut Random) -> Flags {
+    let [v, s, t] = [(); 3].map(|()| random.below(8) != 0);
+    Flags { v, s, t }
+}
+
+/// Both do the word and must agree; the machine is left as they leave it.
+fn same_step(setting: Setting, word: u32, machine: &mut Machine) -> u32 {
+    let mut ours = machine.clone();
+    let [w12, w13, w14, w15] = ours.w;
+    let Flags { v, s, t } = ours.flags;
+    let mut scalars = Scalars {
+        w12,
+        w13,
+        w14,
+        w15,
+        pc: ours.pc,
+        v,
+        s,
+        t,
+    };
+    let our_number = gighull::step(
+        &mut ours.z,
+        &mut ours.p,
+        &mut ours.zt0,
+        &mut scalars,
+        setting.vl,
+        setting.features,
+        word,
+    );
+    ours.w = [scalars.w12, scalars.w13, scalars.w14, scalars.w15];
+    ours.pc = scalars.pc;
+    let (v, s, t) = (scalars.v, scalars.s, scalars.t);
+    ours.flags = Flags { v, s, t };
+    let number = number_of(&reference::step::step(setting, word, machine));
+    assert_eq!(our_number, number, "{word:08x} under {setting:?}");
+    assert!(ours == *machine, "{word:08x} under {setting:?}");
+    number
+}
+
+#[test]
+fn step_questions_of_three_seeds() {
+    let mut counts = [0; 10];
+    for seed in [1, 2, 3] {
+        for question in step_questions::generate(seed) {
+            let mut machine = question.machine();
+            let number = same_step(question.setting, question.word, &mut machine);
+            counts[number as usize] += 1;
+        }
+    }
+    assert!(counts[..7].iter().all(|&count| count > 0), "{counts:?}");
+    assert_eq!(counts[7..], [0; 3]);
+}
+
+/// Words on one machine that goes on, so that each finds what others left.
+#[test]
+fn any_words_in_a_row() {
+    let mut random = Random::new(61);
+    let mut machine = any_machine(&mut random);
+    let mut done = 0;
+    for word in listing_words(62, 20_000) {
+        if random.below(20) == 0 {
+            machine = any_machine(&mut random);
+        }
+        let setting = any_setting(&mut random);
+        machine.flags = any_flags(&mut random);
+        machine.w[random.below(4) as usize] = random.next_u32();
+        done += u32::from(same_step(setting, word, &mut machine) == 0);
+    }
+    assert!(done > 4000, "{done}");
+}
+
+/// Settings, some of them not allowed: 65664 is 128 in its low 16 bits.
+fn setting_of_any_kind(random: &mut Random) -> Setting {
+    if random.coin() {
+        return any_setting(random);
+    }
+    Setting {
+        vl: random.pick(&[0, 64, 128, 129, 256, 384, 2048, 4096, 65664, u32::MAX]),
+        features: random.pick(&[0, 2, 8, 16, 31, 32, 63, 287, u32::MAX]),
+    }
+}
+
+fn same_reading(setting: Setting, word: u32) -> u32 {
+    let Setting { vl, features } = setting;
+    let answer = reference::decode::decode(setting, word);
+    let number = number_of(&answer);
+    let mut expected = [77; 7];
+    if let Ok(instruction) = answer {
+        expected[0] = instruction.form().number() - 1;
+        expected[1..].copy_from_slice(&instruction.fields());
+    }
+    let mut fields = [77; 7];
+    assert_eq!(gighull::decode(vl, features, word, &mut fields), number);
+    assert_eq!(fields, expected, "{word:08x} under {setting:?}");
+    for length in [0, 1, 6, 8, 9] {
+        let mut other = vec![77; length];
+        assert_eq!(gighull::decode(vl, features, word, &mut other), number);
+        assert_eq!(other, vec![77; length]);
+    }
+    if number == 0 {
+        assert_eq!(gighull::encode(vl, features, &fields), (0, word));
+    }
+    number
+}
+
+#[test]
+fn readings() {
+    let mut random = Random::new(63);
+    let mut counts = [0; 10];
+    for round in 0..20_000 {
+        let form = random.pick(&Form::ALL);
+        let word = match round % 4 {
+            0 => matching_word(&mut random, form),
+            1 => failing_word(&mut random, form).unwrap_or_default(),
+            2 => near_miss(&mut random),
+            _ => random.next_u32(),
+        };
+        let setting = setting_of_any_kind(&mut random);
+        counts[same_reading(setting, word) as usize] += 1;
+    }
+    let [done, not_allowed, _, undefined, ..] = counts;
+    assert!(
+        done > 1000 && not_allowed > 1000 && undefined > 1000,
+        "{counts:?}"
+    );
+}
+
+fn same_writing(setting: Setting, form: Form, fields: [u32; 6]) -> u32 {
+    let instruction = Instruction::from_fields(form, fields);
+    let answer = encode(setting, instruction);
+    let expected = (number_of(&answer), answer.unwrap_or(0));
+    let mut numbers = [form.number() - 1; 7];
+    numbers[1..].copy_from_slice(&fields);
+    let found = gighull::encode(setting.vl, setting.features, &numbers);
+    assert_eq!(found, expected, "{instruction:?} under {setting:?}");
+    found.0
+}
+
+#[test]
+fn writings() {
+    let mut random = Random::new(64);
+    let mut counts = [0; 10];
+    for _ in 0..5_000 {
+        let form = random.pick(&Form::ALL);
+        let fields = fields_in_range(&mut random, form);
+        let setting = setting_of_any_kind(&mut random);
+        counts[same_writing(setting, form, fields) as usize] += 1;
+        for place in 0..form.field_count() {
+            let mut outside = fields;
+            outside[place] = random.pick(values_outside(form, place));
+            counts[same_writing(setting, form, outside) as usize] += 1;
+        }
+        // What a form with four fields does not look at.
+        if form.field_count() == 4 {
+            let mut more = fields;
+            more[4] = random.next_u32();
+            more[5] = random.next_u32();
+            same_writing(setting, form, more);
+        }
+    }
+    let [done, not_allowed, _, undefined, _, _, _, _, _, out_of_range] = counts;
+    let all = [done, not_allowed, undefined, out_of_range];
+    assert!(all.iter().all(|&count| count > 100), "{counts:?}");
+}
+
+/// A form above 5 and lists of another length are 9, where the setting is
+/// allowed.
+#[test]
+fn writings_of_no_instruction() {
+    for form in [6, 7, 256, 65536, u32::MAX] {
+        let numbers = [form, 8, 0, 8, 0, 0, 0];
+        assert_eq!(gighull::encode(128, ALL_FEATURES, &numbers), (9, 0));
+        assert_eq!(gighull::encode(128, 0, &numbers), (9, 0));
+        assert_eq!(gighull::encode(128, 32, &numbers), (1, 0));
+        assert_eq!(gighull::encode(129, ALL_FEATURES, &numbers), (1, 0));
+    }
+    for length in [0, 1, 4, 5, 6, 8, 14] {
+        let numbers = vec![0; length];
+        assert_eq!(gighull::encode(128, ALL_FEATURES, &numbers), (9, 0));
+        assert_eq!(gighull::encode(0, ALL_FEATURES, &numbers), (1, 0));
+    }
+}
+
+type Request = fn(&[u8], u32, u32, &mut [u8]) -> usize;
+
+/// Every register and some that are not, at every VL and some that are not, of
+/// files of right and wrong lengths, into buffers of many lengths.
+fn requests(request: Request, slots: u32, slot: usize, bytes_of: fn(u32) -> usize) {
+    let mut random = Random::new(65);
+    let whole = slots as usize * slot;
+    let file: Vec<u8> = (0..whole + 1).map(|_| random.next_u32() as u8).collect();
+    for vl in VECTOR_LENGTHS.into_iter().chain([0, 64, 129, 192, 65664]) {
+        for register in (0..slots + 2).chain([256, 65536, u32::MAX]) {
+            for length in [0, whole - 1, whole, whole + 1] {
+                let answered = VECTOR_LENGTHS.contains(&vl) && register < slots && length == whole;
+                let count = if answered { bytes_of(vl) } else { 0 };
+                for room in [0, 1, bytes_of(vl).saturating_sub(1), bytes_of(vl), 300] {
+                    let count = if room < count { 0 } else { count };
+                    let mut expected = vec![0xa5; room];
+                    if count > 0 {
+                        let at = register as usize * slot;
+                        expected[..count].copy_from_slice(&file[at..at + count]);
+                    }
+                    let mut out = vec![0xa5; room];
+                    let found = request(&file[..length], vl, register, &mut out);
+                    assert_eq!((found, &out), (count, &expected), "VL {vl}, {register}");
+                }
+            }
+        }
+    }
+}
+
+#[test]
+fn register_bytes() {
+    requests(gighull::vector, 32, 256, |vl| vl as usize / 8);
+    requests(gighull::predicate, 16, 32, |vl| vl as usize / 64);
+}
+
+#[test]
+fn listings() {
+    let mut random = Random::new(66);
+    for count in 0..200 {
+        let words: Vec<u32> = listing_words(random.next_u64(), count / 4 + 1).collect();
+        let mut input: Vec<u8> = words.iter().flat_map(|word| word.to_le_bytes()).collect();
+        input.truncate(count as usize);
+        for room in [0, 18, 19, 20, 38, 190, 19 * (input.len() / 4 + 1)] {
+            let read = input.len().min(4 * (room / 19));
+            let text = reference::lister::list(&input[..read]);
+            let mut expected = vec![0xa5; room];
+            expected[..text.len()].copy_from_slice(&text);
+            let mut out = vec![0xa5; room];
+            assert_eq!(gighull::lines(&input, &mut out), (read, text.len()));
+            assert_eq!(out, expected);
+        }
+    }
+}
