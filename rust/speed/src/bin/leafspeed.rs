@@ -18,10 +18,11 @@ use std::time::Instant;
 use reference::random::Random;
 use speed::fail;
 
-const DEFAULT_ROUNDS: usize = 41;
+const DEFAULT_ROUNDS: usize = 401;
 const FEATURES: u32 = 31;
-/// About what one side takes in a round.
-const NANOSECONDS: f64 = 1_000_000.0;
+/// About what one side takes in a round: short against the time that another
+/// process is given, so that few rounds are interrupted.
+const NANOSECONDS: f64 = 100_000.0;
 
 fn main() -> ExitCode {
     let rounds = match std::env::args().nth(1).map(|r| r.parse::<usize>()) {
