@@ -3,3 +3,4 @@ pub mod Passed
 pub mod Orders
 pub mod Copies
 pub mod Permissions
+pub mod Shared

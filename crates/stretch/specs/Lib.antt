@@ -2,3 +2,4 @@ pub mod Run
 pub mod Conflict
 pub mod Permission
 pub mod Claims
+pub mod Bits
