@@ -4,3 +4,6 @@ pub mod Orders
 pub mod Copies
 pub mod Permissions
 pub mod Shared
+pub mod Known
+pub mod Clashes
+pub mod Readings
