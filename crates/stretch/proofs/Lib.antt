@@ -7,3 +7,6 @@ pub mod Shared
 pub mod Known
 pub mod Clashes
 pub mod Readings
+pub mod Turns
+pub mod Places
+pub mod Tabled
