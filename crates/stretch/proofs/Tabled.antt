@@ -1,6 +1,6 @@
 -- The tests over the tables are those of the definitions: an order as long as the stretch is a rearrangement exactly when each position is listed, and the tables hold what each word touches and where each position stands.
 use mathlib.Core.Path.{_≡_, refl, sym, _∙_, ap, ap₂}
-use mathlib.Core.Bool.{Bool, true, false, not, _&&_, _||_}
+use mathlib.Core.Bool.{Bool, true, false, not, _&&_, _||_, and-false}
 use mathlib.Core.List.{List}
 use Prim.Native.Nat.{ℕ, _+_, _≤_, _<_}
 use native.Mathlib.Nat.{not-suc-le-zero}
@@ -9,11 +9,13 @@ use lib.Dec.{ltb, leb}
 use lib.ListN.{length, getD, set, length-set}
 use lib.Seq.{getD-set-same, getD-set-other}
 use borrow.Author.Count.{below-more}
+use borrow.Author.Tests.{lt-ltb, le-ltb}
+use Rattle.element.proofs.Tests.{said-no, said-yes}
 use Rattle.setting.specs.declared.Setting.{Setting}
 use Rattle.order.specs.Tested.{allBelow}
 use Rattle.stretch.specs.Conflict.{isRead}
 use Rattle.stretch.specs.Bits.{touchOf, clashes}
-use Rattle.stretch.specs.Tables.{touchAt, keepsAt}
+use Rattle.stretch.specs.Tables.{touchAt, keepsAt, standsAt}
 use Rattle.stretch.specs.declared.touch.Touch.{Touch}
 use Rattle.stretch.proofs.Turns.{all-more, turned, kept}
 
@@ -24,6 +26,18 @@ module _ (writes all place : List ℕ) (i j : ℕ) {b : Bool} (e : b ≡ clashes
 
   pub pair-holds : (b && leb (getD place j 0) (getD place i 0)) ≡ false → keepsAt writes all place i j ≡ true
   pair-holds h = rw (sym e) (kept b (getD place i 0) (getD place j 0) h)
+
+-- ---- a position, as the code tests it
+module _ (writes all place : List ℕ) (n j : ℕ) where
+  pub position-unlisted : n ≤ getD place j 0 → standsAt writes all place n j ≡ false
+  position-unlisted h = rw (le-ltb (getD place j 0) n h)
+
+  module _ {b : Bool} (e : b ≡ allBelow (λ i. keepsAt writes all place i j) j) where
+    pub position-fails : not b ≡ true → standsAt writes all place n j ≡ false
+    position-fails h = rw (said-no e h) (and-false (ltb (getD place j 0) n))
+
+    pub position-holds : getD place j 0 < n → not b ≡ false → standsAt writes all place n j ≡ true
+    position-holds l h = rw (lt-ltb (getD place j 0) n l) (said-yes e h)
 
 -- ---- a touch stored
 module _ (writes all : List ℕ) (i : ℕ) (t : Touch) where

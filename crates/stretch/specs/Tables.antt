@@ -1,12 +1,19 @@
 -- What the code of a permission goes by: tables of the words' touches and of their places in the order, over the positions.
+use mathlib.Core.Path.{_≡_}
 use mathlib.Core.Bool.{Bool, not, _&&_, _||_}
 use mathlib.Core.List.{List}
-use Prim.Native.Nat.{ℕ}
+use Prim.Native.Nat.{ℕ, _≤_}
 use lib.Dec.{ltb}
 use lib.ListN.{getD}
 use Rattle.order.specs.Tested.{allBelow}
 use Rattle.stretch.specs.Bits.{clashes}
 use Rattle.stretch.specs.declared.touch.Touch.{Touch}
+
+-- the tables have room for each word
+pub record Room (words writes all : ℕ) : Type 0 where
+  pub few : words ≤ 256
+  pub writes-long : writes ≡ 256
+  pub all-long : all ≡ 256
 
 abbrev pub touchAt : List ℕ → List ℕ → ℕ → Touch
 touchAt writes all i = record { writes = getD writes i 0; all = getD all i 0 }

@@ -7,7 +7,7 @@ ghost use Rattle.order.specs.Rearranged.{place};
 ghost use Rattle.order.specs.Tested.{allBelow};
 ghost use Rattle.stretch.specs.Permission.{allRead};
 ghost use Rattle.stretch.specs.Bits.{touchOf};
-ghost use Rattle.stretch.specs.Tables.{touchAt, keepsAt, standsAt};
+ghost use Rattle.stretch.specs.Tables.{Room, touchAt, keepsAt, standsAt};
 use crate::touch;
 use crate::touch::Reading;
 use crate::touch::Touch;
@@ -20,7 +20,7 @@ pub(crate) fn touches(
     writes: &mut [u64; 256],
     all: &mut [u64; 256],
 ) -> bool
-    requires { ⌜ length (now words) ≤ 256 ⌝ }
+    requires { ⌜ Room (length (now words)) (length (now writes)) (length (now all)) ⌝ }
     ensures read { λ r. ⌜ r ≡ allRead setting (now (words .entry)) ⌝ }
     ensures each { λ r. ⌜ (r ≡ true → (i : ℕ) → i < length (now (words .entry)) → touchAt (now (writes .exit)) (now (all .exit)) i ≡ touchOf setting (getD (now (words .entry)) i 0)) ⌝ }
 {

@@ -20,7 +20,7 @@ abbrev μ-loop : tie.MeasureT-loop
 μ-loop setting words writes₀ all₀ i₀ writes all i = length words - i
 
 loop-holds : tie.Need-loop-holds Inv-loop μ-loop
-loop-holds c = told-none (c .before .args .setting) (c .before .args .words .now) (c .before .args .writes .now) (c .before .args .all .now) ? ?
+loop-holds c = told-none (c .before .args .setting) (c .before .args .words .now) (c .before .args .writes .now) (c .before .args .all .now) (c .before .pre .writes-long) (c .before .pre .all-long)
 
 mul-read : tie.Need-mul-read Inv-loop μ-loop
 mul-read c = omega arith
@@ -70,7 +70,7 @@ loop-again c =
     let w = getD (a .words .now) (l .loop .i) 0 in
     let r = c .before .before .before .read .ensures in
     let t = c .before .t .given .1 in
-    told-more (a .setting) (a .words .now) (l .loop .i) (l .loop .writes) (l .loop .all) (c .before .t .given .0 .0) (omega arith) (l .before .before .pre) (l .loop .inv) (is-read (a .setting) w r t) (touch-is (a .setting) w r t)
+    told-more (a .setting) (a .words .now) (l .loop .i) (l .loop .writes) (l .loop .all) (c .before .t .given .0 .0) (omega arith) (l .before .before .pre .few) (l .loop .inv) (is-read (a .setting) w r t) (touch-is (a .setting) w r t)
 
 returns-2 : tie.Need-returns-2 Inv-loop μ-loop
 returns-2 c =
