@@ -10,3 +10,5 @@ pub mod Readings
 pub mod Turns
 pub mod Places
 pub mod Tabled
+pub mod Listed
+pub mod Permitting
