@@ -48,10 +48,11 @@ module _ (s : Setting) (words order writes all table : List ℕ)
       (ap₂ clashes (touch i h) (touch j l) ∙ clash-is-conflict s (getD words i 0) (getD words j 0))
       (ap₂ ltb (places i (omega arith)) (places j (omega arith)))
 
-  pub stands-permitted : allBelow (standsAt writes all table (length words)) (length words) ≡ permittedBy s words order
+  pub stands-permitted : {b : Bool} → b ≡ allBelow (standsAt writes all table (length words)) (length words) → b ≡ permittedBy s words order
   unfolding permits
-  stands-permitted =
-      all-same _ (λ j. ltb (place j order) (length words) && allBelow (λ i. keeps (conflict s) words order i j) j) (length words)
+  stands-permitted e =
+      e
+      ∙ all-same _ (λ j. ltb (place j order) (length words) && allBelow (λ i. keeps (conflict s) words order i j) j) (length words)
       (λ j l.
       ap₂ (λ (a b : Bool). a && b) (ap (λ (p : ℕ). ltb p (length words)) (places j (omega arith)))
       (all-same _ (λ i. keeps (conflict s) words order i j) j (λ i h. keeps-same i j (omega arith) l)))

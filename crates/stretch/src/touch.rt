@@ -83,7 +83,11 @@ fn touch_of(instruction: Instruction) -> Touch
             predicate(pd) | predicate((pd + 1) % 16),
         ),
         Instruction::Dup {
-            index, pg, pn, pd, ..
+            index,
+            pg,
+            pn,
+            pd,
+            ..
         } => join(
             predicate(pg) | (predicate(pn) | scalar(index)),
             predicate(pd),

@@ -52,8 +52,8 @@ returns-5 c =
     let few = c .before .before .before .before .before .before .before .before .before .before .before .if2 .left in
     c .yes-or-no .ensures
     ∙ permission-is (a .setting) (a .words .now) (a .order .now) (open-setting (c .before .before .before .before .before .before .before .before .before .before .before .before)) few (all-read e)
-    (c .before .stands .ensures
-    ∙ stands-permitted (a .setting) (a .words .now) (a .order .now) (t .0) (t .1 .0) (c .before .before .before .before .before .places .result) (c .before .before .before .before .before .before .if4 .left) few (e .before .touches .ensures .1 (not-false (e .before .touches .result) (e .if3 .left))) (c .before .before .before .before .before .places .ensures))
+    (stands-permitted (a .setting) (a .words .now) (a .order .now) (t .0) (t .1 .0) (c .before .before .before .before .before .places .result) (c .before .before .before .before .before .before .if4 .left) few
+    (e .before .touches .ensures .1 (not-false (e .before .touches .result) (e .if3 .left))) (c .before .before .before .before .before .places .ensures) (c .before .stands .ensures))
 
 pub permitted-spec : {M : Type 1} → statement M
 permitted-spec =

@@ -54,8 +54,7 @@ loop-less-2 c = omega arith
 
 loop-again-2 : tie.Need-loop-again-2 Inv-loop μ-loop
 loop-again-2 c =
-    let l = c .before .before .before in
-    (
+    let l = c .before .before .before in (
       omega arith,
       (l .loop .inv .1 .0, places-passed (l .before .args .order .now) (l .loop .k - 1) (l .loop .k) (omega arith) (omega arith) (l .loop .place) (l .loop .inv .1 .1) (c .if1 .left)),
     )

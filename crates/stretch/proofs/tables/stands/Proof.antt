@@ -28,7 +28,7 @@ element-copy-out-if1 : tie.Need-element-copy-out-if1 Inv-loop μ-loop
 element-copy-out-if1 c = omega arith
 
 returns : tie.Need-returns Inv-loop μ-loop
-returns c = 
+returns c =
     let a = c .before .before .before .before .args in
     sym (one-fails (standsAt (a .writes .now) (a .all .now) (a .place .now) (a .n)) (a .n) (c .before .before .before .loop .j) (omega arith) (position-unlisted (a .writes .now) (a .all .now) (a .place .now) (a .n) (c .before .before .before .loop .j) (c .if1 .taken)))
 
@@ -36,7 +36,7 @@ keeps-requires : tie.Need-keeps-requires Inv-loop μ-loop
 keeps-requires c κs = omega arith
 
 returns-2 : tie.Need-returns-2 Inv-loop μ-loop
-returns-2 c = 
+returns-2 c =
     let a = c .before .before .before .before .before .before .args in
     sym (one-fails (standsAt (a .writes .now) (a .all .now) (a .place .now) (a .n)) (a .n) (c .before .before .before .before .before .loop .j) (omega arith) (position-fails (a .writes .now) (a .all .now) (a .place .now) (a .n) (c .before .before .before .before .before .loop .j) (c .before .keeps .ensures) (c .if2 .taken)))
 
@@ -47,13 +47,13 @@ loop-less : tie.Need-loop-less Inv-loop μ-loop
 loop-less c = omega arith
 
 loop-again : tie.Need-loop-again Inv-loop μ-loop
-loop-again c = 
+loop-again c =
     let a = c .before .before .before .before .before .before .args in
     let l = c .before .before .before .before .before .loop in
     (omega arith, all-more (standsAt (a .writes .now) (a .all .now) (a .place .now) (a .n)) (l .j) (l .inv .1) (position-holds (a .writes .now) (a .all .now) (a .place .now) (a .n) (l .j) (c .before .keeps .ensures) (c .before .before .if1 .left) (c .if2 .left)))
 
 returns-3 : tie.Need-returns-3 Inv-loop μ-loop
-returns-3 c = 
+returns-3 c =
     let a = c .before .before .args in
     let l = c .before .loop in
     all-done (standsAt (a .writes .now) (a .all .now) (a .place .now) (a .n)) (l .j) (a .n) (l .inv .0) (c .loop-test .left) (l .inv .1)

@@ -48,7 +48,7 @@ predicate-requires-7 : tie.Need-predicate-requires-7
 predicate-requires-7 c κs = known-as (c .before .before .instruction3 .given .1) (c .before .before .before .before .pre) .0 .1 .0
 
 scalar-requires : tie.Need-scalar-requires
-scalar-requires c κs = 
+scalar-requires c κs =
     let r = c .before .before .before in
     let g = r .instruction3 .given .0 in
     let d = dup-ranges (g .0) (g .1 .0) (g .1 .1 .0) (g .1 .1 .1 .0) (g .1 .1 .1 .1 .0) (g .1 .1 .1 .1 .1 .0) (known-range (r .instruction3 .given .1) (r .before .before .pre)) in
