@@ -1,17 +1,17 @@
 -- The allowed lengths are powers of two, so a count's bits are those below VL; and the size that a counter says.
-use mathlib.Core.Path.{_≡_, refl, sym, ap, _∙_}
-use mathlib.Core.Bool.{Bool, true, false, _||_}
-use mathlib.Core.Logic.{⊎-elim}
-use Prim.Native.Nat.{ℕ, _+_, _-_, _*_, _/_, _%_, _^_, _≤_, _<_}
-use native.Mathlib.Nat.{mod-lt, mod-eq-of-lt, mul-le-mul, div-le-self}
+use mathlib.Core.Path.{_≡_, refl, sym, ap, ap₂, _∙_}
+use mathlib.Core.Bool.{Bool, true, _||_}
+use mathlib.Core.Logic.{⊎-elim, _⊎_, inl, inr}
+use Prim.Native.Nat.{ℕ, zero, suc, _+_, _-_, _*_, _/_, _%_, _^_, _≤_, _<_}
 use native.Mathlib.Omega.{arith}
+use lib.Bits.{bitAnd, and-block, and-self}
 use lib.Count.{trailingZeros}
-use lib.Dec.{eqb, eqb→eq, lit<, lit≤}
-use lib.Pow.{field, pow-mono, pow-pos}
-use borrow.Author.Tests.{eqb-true, eq-eqb, ne-eqb}
+use lib.Dec.{T, eqb, eqb→eq, lit<, lit≤}
+use lib.Pow.{field, mod-mod-pow}
+use borrow.Author.Tests.{eqb-true, ne-eqb}
 use Rattle.setting.specs.Allowed.{lengthAllowed}
-use Rattle.element.specs.Size.{pick, sizeOf}
-use Rattle.element.specs.Units.{Log, logOf}
+use Rattle.element.specs.Size.{sizeOf}
+use Rattle.element.specs.Units.{Log}
 use Rattle.element.proofs.Below.{below}
 use Rattle.element.proofs.Sizes.{zeros-lt}
 use Rattle.element.proofs.Tests.{one-yes}
@@ -44,22 +44,50 @@ pub top-bit : (vl : ℕ) → lengthAllowed vl ≡ true → 2 ^ topBit vl ≡ 4 *
 unfolding topBit trailingZeros
 top-bit = cases (λ vl. 2 ^ topBit vl ≡ 4 * (vl / 8)) refl refl refl refl refl
 
--- a counter without a size, and the size of another
-logged : ℕ → Bool
-logged z = eqb (logOf (8 * 2 ^ z)) z
+-- the lowest 1 of a number's low four bits: tests over them
+drops : ℕ → Bool
+drops r = eqb r 0 || eqb (bitAnd r (r - 1) + 2 ^ zeros r) r
 
-pub none-said : (c : ℕ) → sizeOf c ≡ 0 → c % 16 ≡ 0
-unfolding sizeOf
-none-said c e = go (eqb (c % 16) 0) refl e
-  where
-    go : (b : Bool) → eqb (c % 16) 0 ≡ b → pick b 0 (8 * 2 ^ zeros c) ≡ 0 → c % 16 ≡ 0
-    go true h z = eqb-true (c % 16) 0 h
-    go false h z = absurd (let p = pow-pos (zeros c) in omega arith)
+stands : ℕ → Bool
+stands r = eqb r 0 || eqb (r % 2 ^ (zeros r + 1)) (2 ^ zeros r)
 
-pub some-said : (c : ℕ) → (sizeOf c ≡ 0 → ⊥) → c % 16 ≡ 0 → ⊥
-unfolding sizeOf
-some-said c ne e = ne (rw (eq-eqb (c % 16) 0 e))
+unless : (r x y : ℕ) → T (eqb r 0 || eqb x y) → (r ≡ 0 → ⊥) → x ≡ y
+unless r x y t ne = eqb→eq x y (rw (ne-eqb r 0 ne) at t)
 
+module _ (m : ℕ) (ne : m % 16 ≡ 0 → ⊥) where
+  without-lowest : bitAnd m (m - 1) ≡ m - 2 ^ zeros m
+  unfolding drops trailingZeros
+  without-lowest =
+      let q = m / 16 in
+      let r = m % 16 in
+      let low : m % 16 % 16 ≡ m % 16 = omega arith in
+      let same : zeros r ≡ zeros m = ap (trailingZeros 32) low in
+      let a : m ≡ q * 2 ^ 4 + r = omega arith in
+      let b : m - 1 ≡ q * 2 ^ 4 + (r - 1) = omega arith in
+      let d = unless r (bitAnd r (r - 1) + 2 ^ zeros r) r (below drops 16 tt r (omega arith)) ne in
+      let e : bitAnd m (m - 1) ≡ q * 2 ^ 4 + bitAnd r (r - 1) = ap₂ bitAnd a b ∙ and-block 4 q q r (r - 1) (omega arith) (omega arith) ∙ ap (λ (n : ℕ). n * 2 ^ 4 + bitAnd r (r - 1)) (and-self q) in
+      e ∙ rw (← same) (omega arith)
+
+  lowest-bit : m % 2 ^ (zeros m + 1) ≡ 2 ^ zeros m
+  unfolding stands trailingZeros
+  lowest-bit =
+      let r = m % 16 in
+      let low : m % 16 % 16 ≡ m % 16 = omega arith in
+      let same : zeros r ≡ zeros m = ap (trailingZeros 32) low in
+      let few : zeros m < 4 = zeros-lt (m % 16) (omega arith) ne in
+      let k : 4 ≡ 3 - zeros m + (zeros m + 1) = omega arith in
+      let in-four : m % 2 ^ (zeros m + 1) ≡ r % 2 ^ (zeros m + 1) = sym (ap (λ (n : ℕ). m % 2 ^ n % 2 ^ (zeros m + 1)) k ∙ mod-mod-pow m (3 - zeros m) (zeros m + 1)) in
+      let d = unless r (r % 2 ^ (zeros r + 1)) (2 ^ zeros r) (below stands 16 tt r (omega arith)) ne in
+      in-four ∙ ap (λ (n : ℕ). r % 2 ^ (n + 1)) (sym same) ∙ d ∙ ap (λ (n : ℕ). 2 ^ n) same
+
+halved : (z m : ℕ) → z < 4 → m % 2 ^ (z + 1) ≡ 2 ^ z → (m - 2 ^ z) / 2 ≡ m / 2 ^ (z + 1) * 2 ^ z
+halved zero m h e = omega arith
+halved (suc zero) m h e = omega arith
+halved (suc (suc zero)) m h e = omega arith
+halved (suc (suc (suc zero))) m h e = omega arith
+halved (suc (suc (suc (suc z)))) m h e = absurd (omega arith)
+
+-- the size that a counter says
 module _ (c : ℕ) (ne : c % 16 ≡ 0 → ⊥) where
   pub few-zeros : zeros c < 4
   few-zeros = zeros-lt (c % 16) (omega arith) ne
@@ -67,10 +95,6 @@ module _ (c : ℕ) (ne : c % 16 ≡ 0 → ⊥) where
   pub size-said : Log (sizeOf c) (zeros c)
   unfolding sizeOf
   size-said = record { small = few-zeros; is = rw (ne-eqb (c % 16) 0 ne) }
-
-  pub log-said : logOf (sizeOf c) ≡ zeros c
-  unfolding logged
-  log-said = rw (size-said .is) (eqb→eq (logOf (8 * 2 ^ zeros c)) (zeros c) (below logged 4 tt (zeros c) few-zeros))
 
   -- bits m down to z + 1 are those below VL from z + 1 on: 2 ^ (m + 1) is VL
   pub count-is : (vl : ℕ) → Length vl → countOf vl c ≡ c % vl / 2 ^ (zeros c + 1)
@@ -80,19 +104,34 @@ module _ (c : ℕ) (ne : c % 16 ≡ 0 → ⊥) where
       let e : topBit vl - zeros c + (zeros c + 1) ≡ topBit vl + 1 = omega arith in
       sym (field c (topBit vl - zeros c) (zeros c + 1)) ∙ ap (λ (n : ℕ). c % n / 2 ^ (zeros c + 1)) (ap (λ (n : ℕ). 2 ^ n) e ∙ sym (l .power))
 
-  -- the edge's place in the expansion fits
-  pub edge-fits : (vl : ℕ) → Length vl → (c % vl / 2 ^ (zeros c + 1) * 2 ^ zeros c) % 2 ^ 32 ≡ countOf vl c * 2 ^ zeros c
-  edge-fits vl l =
-      let f = few-zeros in
-      let z : zeros c ≤ 3 = omega arith in
-      let p : 2 ^ zeros c ≤ 2 ^ 3 = pow-mono z in
-      let v : 0 < vl = omega arith in
-      let r : c % vl < vl = mod-lt c v in
-      let q = div-le-self (c % vl) (2 ^ (zeros c + 1)) in
-      let b : c % vl / 2 ^ (zeros c + 1) ≤ 2048 = omega arith in
-      let t : c % vl / 2 ^ (zeros c + 1) * 2 ^ zeros c ≤ 2048 * 2 ^ 3 = mul-le-mul b p in
-      let s : c % vl / 2 ^ (zeros c + 1) * 2 ^ zeros c < 2 ^ 32 = omega arith in
-      mod-eq-of-lt s ∙ ap (λ (n : ℕ). n * 2 ^ zeros c) (sym (count-is vl l))
+  -- below VL the low four bits are the counter's
+  low-four : (vl : ℕ) → Length vl → c % vl % 16 ≡ c % 16
+  low-four vl l =
+      let e : topBit vl + 1 ≡ topBit vl - 3 + 4 = omega arith in
+      ap (λ (n : ℕ). c % n % 16) (l .power ∙ ap (λ (n : ℕ). 2 ^ n) e) ∙ mod-mod-pow c (topBit vl - 3) 4
+
+  pub some-low : (vl : ℕ) → Length vl → 1 ≤ c % vl
+  some-low vl l = go (decEq0 (c % vl))
+    where
+      decEq0 : (n : ℕ) → (n ≡ 0) ⊎ (1 ≤ n)
+      decEq0 zero = inl refl
+      decEq0 (suc n) = inr (omega arith)
+
+      go : (c % vl ≡ 0) ⊎ (1 ≤ c % vl) → 1 ≤ c % vl
+      go (inl e) = absurd (ne (sym (low-four vl l) ∙ ap (λ (n : ℕ). n % 16) e))
+      go (inr h) = h
+
+  -- the edge's place: the count's bits stand one above the lowest 1
+  pub place-is : (vl : ℕ) → Length vl → bitAnd (c % vl) (c % vl - 1) / 2 ≡ countOf vl c * 2 ^ zeros c
+  place-is vl l =
+      let m = c % vl in
+      let f = low-four vl l in
+      let z : zeros m ≡ zeros c = ap (trailingZeros 32) f in
+      let some : m % 16 ≡ 0 → ⊥ = λ e. ne (sym f ∙ e) in
+      ap (λ (n : ℕ). n / 2) (without-lowest m some)
+      ∙ halved (zeros m) m (rw z few-zeros) (lowest-bit m some)
+      ∙ ap (λ (n : ℕ). m / 2 ^ (n + 1) * 2 ^ n) z
+      ∙ ap (λ (n : ℕ). n * 2 ^ zeros c) (sym (count-is vl l))
 
 -- bit 15 is what stands above the others
 pub inverts-is : (c : ℕ) → c < 65536 → eqb (c / 32768) 1 ≡ inverts c

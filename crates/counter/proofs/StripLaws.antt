@@ -12,7 +12,7 @@ use Rattle.element.specs.Size.{pick}
 use Rattle.element.specs.Contents.{fill, gather, octet, row}
 use Rattle.element.specs.Every.{all}
 use Rattle.element.proofs.Below.{below}
-use Rattle.element.proofs.Units.{unit, low-bits, unit-of}
+use Rattle.element.proofs.Units.{Unit, unit, low-bits, unit-of}
 use Rattle.element.proofs.Filling.{gather-same, same}
 use Rattle.counter.specs.Counter.{zeros, countOf, inverts, flipped, elementOf, expansionBit}
 use Rattle.counter.specs.Strips.{stripBit, edgeBit, stepped}
@@ -80,6 +80,23 @@ module _ (vl c s from : ℕ) (small : s < 4) (whole : from % 8 ≡ 0) (ne : c % 
       gather-same (stripBit vl c s from) (edgeBit (max (zeros c) s) (inverts c) (countOf vl c * 2 ^ zeros c - from - 8 * k)) 8 (8 * k) 0
       (λ j h. let q : 0 + j ≡ j = omega arith in rw q (bit-at k j h))
 
+-- the strip from the start, by the edge alone
+module _ (vl c s : ℕ) (small : s < 4) (ne : c % 16 ≡ 0 → ⊥) where
+  in-byte : (b u : ℕ) → Unit u → b % u ≡ b % 8 % u
+  in-byte b u w = let e : b ≡ 8 * (b / 8) + b % 8 = omega arith in ap (λ (n : ℕ). n % u) e ∙ low-bits u (8 * (b / 8)) (b % 8) w (omega arith)
+
+  edge-bit : (b : ℕ) → edgeBit (max (zeros c) s) (inverts c) (countOf vl c * 2 ^ zeros c) b ≡ stripBit vl c s 0 b
+  unfolding stripBit edgeBit
+  edge-bit b =
+      let few = few-zeros c ne in
+      let both = both-sizes (b % 8) s (zeros c) (omega arith) small few in
+      let x = expansion-at vl c s 0 small refl ne 0 b refl in
+      let d : countOf vl c * 2 ^ zeros c - 0 ≡ countOf vl c * 2 ^ zeros c = omega arith in
+      sym (rw (x, d, ← and-assoc, in-byte b (2 ^ s) (unit s small), in-byte b (2 ^ zeros c) (unit (zeros c) few), both, in-byte b (2 ^ max (zeros c) s) (unit (max (zeros c) s) (omega arith))))
+
+  pub word-is : gather (edgeBit (max (zeros c) s) (inverts c) (countOf vl c * 2 ^ zeros c)) 0 64 ≡ gather (stripBit vl c s 0) 0 64
+  word-is = gather-same (edgeBit (max (zeros c) s) (inverts c) (countOf vl c * 2 ^ zeros c)) (stripBit vl c s 0) 64 0 0 (λ j h. edge-bit (0 + j))
+
 -- only whether a bit lies before the edge counts
 edge-same : (z : ℕ) (inv : Bool) (d d′ : ℕ) → ((j : ℕ) → j < 8 → ltb j d ≡ ltb j d′) → gather (edgeBit z inv d) 0 8 ≡ gather (edgeBit z inv d′) 0 8
 unfolding edgeBit
@@ -123,3 +140,7 @@ unfolding row octet gather
 nothing vl c s from n e =
     same (λ k. 0) (octet (stripBit vl c s from)) 1 n
     (λ k h. gather-same (λ (b : ℕ). false) (stripBit vl c s from) 8 (8 * k) (8 * k) (λ j l. sym (no-bit vl c s from (8 * k + j) e)))
+
+pub no-word : (vl c s : ℕ) → c % 16 ≡ 0 → 0 ≡ gather (stripBit vl c s 0) 0 64
+unfolding gather
+no-word vl c s e = gather-same (λ (b : ℕ). false) (stripBit vl c s 0) 64 0 0 (λ j l. sym (no-bit vl c s 0 (0 + j) e))

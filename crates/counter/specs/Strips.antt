@@ -24,6 +24,11 @@ pub record Strip (vl s from : ℕ) : Type 0 where
   pub small : s < 4
   pub whole : from % 8 ≡ 0
 
+-- a counter that says a size, at an allowed length
+pub record Says (vl c : ℕ) : Type 0 where
+  pub length : Length vl
+  pub some : c % 16 ≡ 0 → ⊥
+
 -- bit j of a byte whose first d bits are true, flipped if inverted, at every 2^z-th place
 unfoldable pub edgeBit : ℕ → Bool → ℕ → ℕ → Bool
 edgeBit z inv d j = eqb (j % 2 ^ z) 0 && flipped inv (ltb j d)

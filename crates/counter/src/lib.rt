@@ -1,12 +1,14 @@
 // A predicate-as-counter and its mask. Only this crate turns one into the other: whole, or by a portion for PEXT.
 ghost use mathlib.Core.Path.{_≡_};
-ghost use Prim.Native.Nat.{_+_, _-_, _*_, _/_, _≤_, _<_, min, max};
+ghost use Prim.Native.Nat.{_+_, _-_, _*_, _/_, _%_, _^_, _≤_, _<_, min, max};
+ghost use lib.Dec.{eqb};
 ghost use lib.ListN.{length, getD};
 ghost use Rattle.element.specs.Size.{pick};
+ghost use Rattle.element.specs.Units.{logOf};
 ghost use Rattle.element.specs.Contents.{elem, fill, gather, row};
-ghost use Rattle.counter.specs.Counter.{maskOf};
+ghost use Rattle.counter.specs.Counter.{zeros, countOf, maskOf};
 ghost use Rattle.counter.specs.Portion.{portionOf, extractable};
-ghost use Rattle.counter.specs.Strips.{stripBit, edgeBit, stepped, Strip};
+ghost use Rattle.counter.specs.Strips.{stripBit, edgeBit, stepped, Strip, Says};
 ghost use Rattle.counter.specs.Points.{Claims};
 
 // Sixteen bits that are no mask.
@@ -90,20 +92,28 @@ fn three(o: &mut [u8], full: usize, lo: u8, mid: u8, hi: u8)
     paint(&mut o[next..], hi);
 }
 
+// The edge's place in the expansion, the count by the counter's own size: below VL, without the lowest 1, halved.
+fn place(bits: u32, vl: u32) -> u32
+    requires { ⌜ Says vl bits ⌝ }
+    ensures { λ r. ⌜ r ≡ countOf vl bits * 2 ^ zeros bits ⌝ }
+{
+    let m = bits % vl;
+    (m & (m - 1)) >> 1
+}
+
 // The expansion's bits from `from` on, at every 2^s-th place. A byte has the places of both sizes, which are the larger's.
 fn strip(c: Counter, vl: u32, s: u32, from: u32, o: &mut [u8])
     requires { ⌜ Strip vl s from ⌝ }
     ensures { λ _. ⌜ now (o .exit) ≡ row (stripBit vl (c .0) s from) (length (now (o .entry))) ⌝ }
 {
     let bits = c.0 as u32;
-    let size = element::size_of(bits);
-    if size == 0 {
+    let low = bits % 16;
+    if low == 0 {
         paint(o, 0);
         return;
     }
-    let zc = element::log_of(size);
-    let count = (bits % vl) >> (zc + 1);
-    let d = past(count << zc, from);
+    let zc = u32::trailing_zeros(low);
+    let d = past(place(bits, vl), from);
     let z = larger(zc, s);
     let inv = bits / 32768 == 1;
     let lo = edge(z, inv, 8);
@@ -122,6 +132,50 @@ pub fn expand(c: Counter, vl: u32) -> Mask
         strip(c, vl, 0, 0, &mut m[..n]);
     }
     Mask(m)
+}
+
+// Sixty-four bits, of which every 2^z-th is 1.
+fn places(z: u32) -> u64
+    requires { ⌜ z < 4 ⌝ }
+    ensures { λ r. ⌜ r ≡ gather (λ b. eqb (b % 2 ^ z) 0) 0 64 ⌝ }
+{
+    if z == 0 {
+        return 0xffffffffffffffff;
+    }
+    if z == 1 {
+        return 0x5555555555555555;
+    }
+    if z == 2 {
+        0x1111111111111111
+    } else {
+        0x0101010101010101
+    }
+}
+
+// Sixty-four bits, the first t of them true, or false if inverted, at every 2^z-th place.
+fn long_edge(z: u32, inv: bool, t: u32) -> u64
+    requires { ⌜ (z < 4) × (t < 64) ⌝ }
+    ensures { λ r. ⌜ r ≡ gather (edgeBit z inv t) 0 64 ⌝ }
+{
+    let low = (1u64 << t) - 1;
+    if inv {
+        return (0xffffffffffffffff - low) & places(z);
+    }
+    low & places(z)
+}
+
+// The whole expansion at VL 128, at a size's places: sixty-four bits, four portions of sixteen. A number that is no size counts as 64.
+pub fn short(c: Counter, size: u32) -> u64
+    ensures { λ r. ⌜ r ≡ gather (stripBit 128 (c .0) (logOf size) 0) 0 64 ⌝ }
+{
+    let bits = c.0 as u32;
+    let low = bits % 16;
+    if low == 0 {
+        return 0;
+    }
+    let zc = u32::trailing_zeros(low);
+    let z = larger(zc, element::log_of(size));
+    long_edge(z, bits / 32768 == 1, place(bits, 128))
 }
 
 fn can_extract(vl: u32, size: u32, portion: u32, room: usize) -> bool

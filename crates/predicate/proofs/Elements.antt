@@ -2,18 +2,21 @@
 use mathlib.Core.Path.{_≡_, sym, ap, ap₂, _∙_}
 use mathlib.Core.Bool.{Bool, true, false, _&&_, and-comm, and-true, and-false}
 use mathlib.Core.List.{List}
-use Prim.Native.Nat.{ℕ, _+_, _-_, _*_, _/_, _%_, _^_, _<_}
+use Prim.Native.Nat.{ℕ, _+_, _-_, _*_, _/_, _%_, _^_, _≤_, _<_}
 use native.Mathlib.Nat.{mod-eq-of-lt}
 use native.Mathlib.Omega.{arith}
 use lib.Bits.{bitAnd, and-zero-r, and-mask}
 use lib.Dec.{eqb}
-use lib.ListN.{length, getD}
+use lib.ListN.{length, take, drop, getD}
 use lib.Pow.{pow-pos, pow-add, mod-mod-pow, shr-shr, shl-shr}
+use lib.Seq.{take-take}
 use Rattle.element.specs.Size.{pick}
 use Rattle.element.specs.Units.{Log, patternOf}
 use Rattle.element.specs.Contents.{bit, fill, gather, octet, row}
 use Rattle.element.proofs.Digits.{and-gather, octet-bits, pattern-bits}
 use Rattle.element.proofs.Filling.{turn, gather-same, same, row-length}
+use Rattle.element.specs.Slots.{slot}
+use Rattle.element.proofs.Slots.{reach, slot-part}
 use Rattle.element.proofs.Units.{unit, whole, unit-of, elements}
 use Rattle.counter.specs.Counter.{topBit}
 use Rattle.counter.specs.Strips.{Length}
@@ -45,6 +48,11 @@ module _ (vl z : ℕ) (small : z < 4) (l : Length vl) where
 
   pub place-fits : (i : ℕ) → i < vl / 8 / 2 ^ z → (i * 2 ^ z) % 2 ^ 32 ≡ i * 2 ^ z
   place-fits i h = let f : i * 2 ^ z < 2 ^ 32 = omega (arith, inside i h) in mod-eq-of-lt f
+
+-- of a slot the low bytes are the slot's own
+pub slot-low : (size n m k : ℕ) (f : List ℕ) → n ≤ m → size * k + m ≤ length f → take n (slot size m k f) ≡ slot size n k f
+slot-low size n m k f l h =
+    rw (← slot-part size m k f h, ← slot-part size n k f (omega arith), reach, reach) (take-take n m (drop (size * k) f) l)
 
 -- the value, as the code has it
 pub value-is : (vl size sum z : ℕ) (pn : List ℕ) → Log size z → bit (sum % (vl / 8 / 2 ^ z) * 2 ^ z) pn ≡ valueOf vl size sum pn

@@ -2,3 +2,4 @@ pub mod Ready
 pub mod Portions
 pub mod Elements
 pub mod BoardPoints
+pub mod Pairs

@@ -33,6 +33,7 @@ register {bytes} {vl} g k h = record { file = g .file; length = length-is vl (g 
 pub record Pext (bytes vl size first portions pn pd : ℕ) : Type 0 where
   pub ground : Ground bytes vl size
   pub some : 0 < portions
+  pub few : portions ≤ 2
   pub last : first + portions ≤ 4
   pub from : pn < 16
   pub to : pd < 16
@@ -49,6 +50,7 @@ pext-ready bytes vl size first portions pn pd h =
     record {
       ground = ground bytes vl size (d .0);
       some = ⊎-elim (λ s. omega (arith, eqb-true portions 1 s)) (λ s. omega (arith, eqb-true portions 2 s)) (one-yes (eqb portions 1) (eqb portions 2) (d .1));
+      few = ⊎-elim (λ s. omega (arith, eqb-true portions 1 s)) (λ s. omega (arith, eqb-true portions 2 s)) (one-yes (eqb portions 1) (eqb portions 2) (d .1));
       last = leb-true (first + portions) 4 (b .1);
       from = ltb-true pn 16 (e .0);
       to = ltb-true pd 16 (e .1);

@@ -17,6 +17,12 @@ pub record Portion (bytes vl size p pd : ℕ) : Type 0 where
   pub to : Register bytes vl pd
   pub extracts : extractable vl size p (vl / 64) ≡ true
 
+-- sixteen bits of sixty-four and their register
+pub record Pair (bytes p pd : ℕ) : Type 0 where
+  pub file : bytes ≡ 512
+  pub portion : p < 4
+  pub within : pd < 16
+
 -- an element of a register's contents
 pub record Element (vl size room : ℕ) : Type 0 where
   pub length : Length vl

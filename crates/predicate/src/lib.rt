@@ -2,14 +2,14 @@
 mod governed;
 
 ghost use mathlib.Core.Path.{_≡_};
-ghost use Prim.Native.Nat.{_+_, _/_};
+ghost use Prim.Native.Nat.{_+_, _*_, _/_, _^_};
 ghost use lib.ListN.{length};
-ghost use Rattle.element.specs.Contents.{elem};
+ghost use Rattle.element.specs.Contents.{bytes, elem};
 ghost use Rattle.element.specs.Slots.{slot, setSlot};
 ghost use Rattle.counter.specs.Portion.{portionOf};
 ghost use Rattle.predicate.specs.Pext.{pextReady, pextLeaves};
 ghost use Rattle.predicate.specs.Dup.{dupOf, dupReady, dupLeaves};
-ghost use Rattle.predicate.specs.Operands.{Register, Portion, Registers};
+ghost use Rattle.predicate.specs.Operands.{Register, Portion, Pair, Registers};
 ghost use Rattle.predicate.specs.Points.{Claims};
 use counter::Counter;
 
@@ -44,8 +44,7 @@ fn put(p: &mut [u8], c: Counter, vl: u32, size: u32, portion: u32, pd: u32)
     counter::extract(c, vl, size, portion, &mut p[d..e]);
 }
 
-// PEXT: portions `first` and on, one or two, to Pd and the next. False, and the file as it was, for operands outside their ranges.
-pub fn pext(p: &mut [u8], vl: u32, size: u32, first: u32, portions: u32, pn: u32, pd: u32) -> bool
+fn long_pext(p: &mut [u8], vl: u32, size: u32, first: u32, portions: u32, pn: u32, pd: u32) -> bool
     ensures answer { λ r. ⌜ r ≡ pextReady (length (now (p .entry))) vl size first portions pn pd ⌝ }
     ensures file { λ _. ⌜ now (p .exit) ≡ pextLeaves vl size first portions pn pd (now (p .entry)) ⌝ }
 {
@@ -61,6 +60,47 @@ pub fn pext(p: &mut [u8], vl: u32, size: u32, first: u32, portions: u32, pn: u32
     true
 }
 
+// Sixteen of the bits x into Pd.
+fn put_pair(p: &mut [u8], x: u64, portion: u32, pd: u32)
+    requires { ⌜ Pair (length (now p)) portion pd ⌝ }
+    ensures { λ _. ⌜ now (p .exit) ≡ setSlot 32 2 pd (bytes 2 (x / 2 ^ (16 * portion))) (now (p .entry)) ⌝ }
+{
+    let y = x >> (16 * portion);
+    let d = 32 * (pd as usize);
+    let e = d + 1;
+    p[d] = (y % 256) as u8;
+    p[e] = (y / 256 % 256) as u8;
+}
+
+// At VL 128 a portion is sixteen bits, and all four are one number.
+fn short_pext(p: &mut [u8], size: u32, first: u32, portions: u32, pn: u32, pd: u32) -> bool
+    ensures answer { λ r. ⌜ r ≡ pextReady (length (now (p .entry))) 128 size first portions pn pd ⌝ }
+    ensures file { λ _. ⌜ now (p .exit) ≡ pextLeaves 128 size first portions pn pd (now (p .entry)) ⌝ }
+{
+    if !can_pext(p.len(), 128, size, first, portions, pn, pd) {
+        return false;
+    }
+    let c = source(p, 128, pn);
+    let x = counter::short(c, size);
+    put_pair(p, x, first, pd);
+    if portions == 1 {
+        return true;
+    }
+    put_pair(p, x, first + 1, (pd + 1) % 16);
+    true
+}
+
+// PEXT: portions `first` and on, one or two, to Pd and the next. False, and the file as it was, for operands outside their ranges.
+pub fn pext(p: &mut [u8], vl: u32, size: u32, first: u32, portions: u32, pn: u32, pd: u32) -> bool
+    ensures answer { λ r. ⌜ r ≡ pextReady (length (now (p .entry))) vl size first portions pn pd ⌝ }
+    ensures file { λ _. ⌜ now (p .exit) ≡ pextLeaves vl size first portions pn pd (now (p .entry)) ⌝ }
+{
+    if vl == 128 {
+        return short_pext(p, size, first, portions, pn, pd);
+    }
+    long_pext(p, vl, size, first, portions, pn, pd)
+}
+
 fn can_dup(bytes: usize, vl: u32, size: u32, offset: u32, pg: u32, pn: u32, pd: u32) -> bool
     ensures { λ r. ⌜ r ≡ dupReady bytes vl size offset pg pn pd ⌝ }
 {
@@ -71,7 +111,7 @@ fn can_dup(bytes: usize, vl: u32, size: u32, offset: u32, pg: u32, pn: u32, pd: 
         & ((pg < 16) & (pn < 16) & (pd < 16))
 }
 
-// Pn's value is read, and Pg's low bytes are copied, before Pd is lent.
+// Pn's value is read, and Pg's slot is copied, before Pd is lent.
 fn duplicate(p: &mut [u8], vl: u32, size: u32, w: u32, offset: u32, pg: u32, pn: u32, pd: u32)
     requires { ⌜ Registers (length (now p)) vl size pg pn pd ⌝ }
     ensures { λ _. ⌜ now (p .exit) ≡ setSlot 32 (vl / 64) pd (dupOf vl size (w + offset) (slot 32 (vl / 64) pg (now (p .entry))) (slot 32 (vl / 64) pn (now (p .entry)))) (now (p .entry)) ⌝ }
@@ -81,7 +121,7 @@ fn duplicate(p: &mut [u8], vl: u32, size: u32, w: u32, offset: u32, pg: u32, pn:
     let g = f + n;
     let v = governed::value(&p[f..g], vl, size, w, offset);
     let a = 32 * (pg as usize);
-    let b = a + n;
+    let b = a + 32;
     let mut s = [0u8; 32];
     bytes::copy(&p[a..b], &mut s);
     let d = 32 * (pd as usize);

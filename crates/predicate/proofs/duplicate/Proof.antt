@@ -5,11 +5,12 @@ use mathlib.Core.List.{List}
 use Prim.Native.Nat.{ℕ, _+_, _/_}
 use native.Mathlib.Omega.{arith}
 use lib.ListN.{length, take}
+use lib.Seq.{take-take}
 use Rattle.element.specs.Contents.{row}
 use Rattle.element.specs.Slots.{slot}
 use Rattle.element.proofs.Slots.{slot-part, slot-length, loaded, part-length, put-back}
 use Rattle.predicate.specs.Dup.{valueOf, dupBit, dupOf}
-use Rattle.predicate.proofs.Elements.{dup-length}
+use Rattle.predicate.proofs.Elements.{slot-low, dup-length}
 use borrow.Author.Needs.{needs}
 use Rattle.predicate.proofs.duplicate.Statement.{statement}
 use Rattle.predicate.proofs.duplicate.Tie as tie
@@ -71,7 +72,10 @@ held : (c : tie.After-copy)
     ≡ slot 32 (c .before .before .before .before .before .before .before .before .args .vl / 64) (c .before .before .before .before .before .before .before .before .args .pg) (c .before .before .before .before .before .before .before .before .args .p .now)
 held c =
     let a = c .before .before .before .before .before .before .before .before .args in
-    loaded 32 (a .vl / 64) (a .pg) (a .p .now) _ (c .copy .last .1 .0) (omega arith) (c .copy .ensures .1)
+    let n = a .vl / 64 in
+    sym (take-take n 32 (c .copy .last .1 .0) (omega arith))
+    ∙ ap (take n) (loaded 32 32 (a .pg) (a .p .now) _ (c .copy .last .1 .0) (omega arith) (c .copy .ensures .1))
+    ∙ slot-low 32 n 32 (a .pg) (a .p .now) (omega arith) (omega arith)
 
 held-length : (c : tie.After-copy)
     → length (take (c .before .before .before .before .before .before .before .before .args .vl / 64) (c .copy .last .1 .0)) ≡ c .before .before .before .before .before .before .before .before .args .vl / 64

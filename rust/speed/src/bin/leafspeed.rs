@@ -10,6 +10,10 @@
 //! Afterwards both machines must be equal, byte for byte. Two rows are of words
 //! that are refused, undefined and for a closed flag: what every step costs
 //! beside its operation. All other words must be done.
+//!
+//! DUP's chosen element of Pn is true at each size and both VLs: where it is
+//! false the baseline's loop, as compiled, is passed over, and its time is that
+//! of a clear. The row "DUP B, false" shows that time all the same, with no bar.
 
 use std::hint::black_box;
 use std::process::ExitCode;
@@ -63,7 +67,8 @@ fn main() -> ExitCode {
 struct Case {
     name: &'static str,
     word: u32,
-    /// The bar at VL 2048; below it is 1.05.
+    /// The bar at VL 2048; below it is 1.05. Infinite at both where there is
+    /// none.
     bar: f64,
     /// What every step must answer, and whether V is open.
     answer: u32,
@@ -72,7 +77,11 @@ struct Case {
 
 impl Case {
     fn bar(&self, vl: u32) -> f64 {
-        if vl == 2048 { self.bar } else { 1.05 }
+        if vl == 2048 || self.bar.is_infinite() {
+            self.bar
+        } else {
+            1.05
+        }
     }
 }
 
@@ -87,9 +96,10 @@ fn cases() -> Vec<Case> {
     };
     let pext1 = |size: u32| 0x2520_7010 | size << 22 | 1 << 8 | 2 << 5 | 3;
     let pext2 = |size: u32| 0x2520_7410 | size << 22 | 2 << 5 | 3;
-    let dup = |tsz: u32| {
-        0x2520_4000 | (tsz >> 3) << 22 | (tsz & 7) << 18 | 1 << 16 | 4 << 10 | 5 << 5 | 6
+    let dup_of = |tsz: u32, pn: u32| {
+        0x2520_4000 | (tsz >> 3) << 22 | (tsz & 7) << 18 | 1 << 16 | 4 << 10 | pn << 5 | 6
     };
+    let dup = |tsz: u32| dup_of(tsz, 5);
     let narrow = |tsz: u32, imm3: u32| {
         0x4520_3800 | (tsz >> 2) << 22 | (tsz & 3) << 19 | imm3 << 16 | 7 << 5 | 9
     };
@@ -115,6 +125,7 @@ fn cases() -> Vec<Case> {
         case("DUP H", dup(0b0010), 0.4),
         case("DUP S", dup(0b0100), 0.4),
         case("DUP D", dup(0b1000), 0.4),
+        case("DUP B, false", dup_of(0b0001, 7), f64::INFINITY),
         case("LUTI4C H", 0xc08a_9000 | 1 << 5 | 2 << 2, 0.4),
         case("LUTI4C S", 0xc08a_a000 | 1 << 16 | 1 << 5 | 2 << 2, 0.4),
         case("LUTI4S H", 0xc09a_9000 | 1 << 5 | 1 << 4 | 2, 0.4),
@@ -150,6 +161,12 @@ fn machines() -> (Machine<gighull::Scalars>, Machine<baseline::Scalars>) {
     // portions on at VL 128, and inverted.
     p[320..322].copy_from_slice(&0x8033u16.to_le_bytes());
     let w = [1, 0x8000_0003, 2, 3];
+    // W13 is 3 modulo every number of elements above 2, and 1 modulo 2. So DUP
+    // chooses these bits of P5 (B, H, S; D at VL 128, at VL 2048), or of P7.
+    for bit in [3, 6, 12, 8, 24] {
+        p[160 + bit / 8] |= 1 << (bit % 8);
+    }
+    p[224] &= !(1 << 3);
     let proved = Machine {
         z: z.clone(),
         p: p.clone(),
