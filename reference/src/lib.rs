@@ -28,13 +28,16 @@
 //!
 //! and what is needed to compare:
 //!
-//! - [`question`], [`step_question`]: one question and its answer
-//! - [`expand`](mod@expand): how a machine is made from a few numbers
+//! - [`question`], [`step_question`], [`run_question`],
+//!   [`permission_question`]: one question and its answer
+//! - [`start`], [`expand`](mod@expand): what a step or a run starts from, and
+//!   how its machine is made from a few numbers
 //! - [`text`]: questions and answers as lines of fixed width
 //! - [`questions`], [`step_questions`], [`conflict_questions`]: the lists of
 //!   questions put to both programs
-//! - [`samples`], [`stretches`], [`values`], [`random`]: seeded words, fields,
-//!   machines and stretches
+//! - [`samples`], [`roles`], [`stretches`], [`values`], [`random`]: seeded
+//!   words, fields, machines and stretches
+//! - [`once`]: lists without duplicates
 //!
 //! The binary `reference` gives all of this on the command line:
 //!
@@ -58,15 +61,20 @@ pub mod instruction;
 pub mod layout;
 pub mod lister;
 pub mod machine;
+pub mod once;
 pub mod operations;
+pub mod permission_question;
 pub mod question;
 pub mod questions;
 pub mod random;
 pub mod rearrangement;
 pub mod refusal;
+pub mod roles;
 pub mod run;
+pub mod run_question;
 pub mod samples;
 pub mod setting;
+pub mod start;
 pub mod step;
 pub mod step_question;
 pub mod step_questions;

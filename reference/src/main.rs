@@ -8,10 +8,7 @@ use reference::lister::list_stream;
 use reference::questions::{self, DEFAULT_SEED};
 use reference::samples::listing_words;
 use reference::step_questions;
-use reference::text::{
-    KIND_BYTES, answer_line, question_bytes, question_line, read_question, read_step_question,
-    step_answer_line, step_question_line,
-};
+use reference::text::{self, answer_line, question_line, step_question_line};
 
 const USAGE: &str = "usage: reference list | questions [SEED] | step-questions [SEED] \
                      | conflict-questions [SEED] | answers | listing-words SEED COUNT";
@@ -110,34 +107,33 @@ fn print_answers(input: &mut impl Read, output: &mut impl Write) -> Result<(), F
     Ok(())
 }
 
-/// The answer's line for a question's line, whose length tells the two
-/// formats apart.
+/// The answer's line for a question's line.
 fn answer_to(line: &[u8]) -> Result<String, String> {
-    if let Ok(line) = line.try_into() {
-        read_question(line).map(|question| answer_line(&question.answer()))
-    } else if let Ok(line) = line.try_into() {
-        read_step_question(line).map(|question| step_answer_line(&question.answer()))
-    } else {
-        Err("not a question".to_string())
-    }
+    Ok(match text::kind_of(line)? {
+        text::STEP_KIND => answer_line(&text::read_step_question(line)?.answer()),
+        text::RUN_KIND => answer_line(&text::read_run_question(line)?.answer()),
+        text::PERMISSION_KIND => answer_line(&text::read_permission_question(line)?.answer()),
+        _ => answer_line(&text::read_question(line)?.answer()),
+    })
 }
 
-/// The next question's bytes; its kind says how many they are.
+/// The next question's bytes; those read already say how many they are.
 fn next_line(input: &mut impl Read, place: u64) -> Result<Option<Vec<u8>>, Failure> {
-    let cut = || Failure::Input(format!("question {place}: the input ends inside it"));
-    let mut kind = [0u8; KIND_BYTES];
-    match fill(input, &mut kind)? {
-        0 => return Ok(None),
-        KIND_BYTES => {}
-        _ => return Err(cut()),
+    let problem = |what: String| Failure::Input(format!("question {place}: {what}"));
+    let mut line = Vec::new();
+    loop {
+        let held = line.len();
+        let known = text::question_bytes(&line).map_err(problem)?;
+        if held == known {
+            return Ok(Some(line));
+        }
+        line.resize(known, 0);
+        match held + fill(input, &mut line[held..])? {
+            0 => return Ok(None),
+            now if now < known => return Err(problem("the input ends inside it".to_string())),
+            _ => {}
+        }
     }
-    let mut line = kind.to_vec();
-    line.resize(question_bytes(&kind), 0);
-    let rest = &mut line[KIND_BYTES..];
-    if fill(input, rest)? < rest.len() {
-        return Err(cut());
-    }
-    Ok(Some(line))
 }
 
 /// Reads until the buffer is full or the input ends, and says how much.

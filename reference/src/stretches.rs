@@ -1,35 +1,18 @@
 //! Seeded machines, stretches of words and orders for them, to run.
 
 use crate::decode::decode;
-use crate::expand::{Contents, NO_OVERRIDE, expand};
 use crate::instruction::Form;
 use crate::layout::has_features;
-use crate::machine::{Flags, Machine, P_FILE_BYTES, Z_FILE_BYTES, ZT0_FILE_BYTES};
+use crate::machine::Machine;
 use crate::random::Random;
 use crate::samples::matching_word;
-use crate::setting::{ALL_FEATURES, Setting, VECTOR_LENGTHS, features_are_allowed};
+use crate::setting::{ALL_FEATURES, FULL, Setting, VECTOR_LENGTHS, features_are_allowed};
+use crate::start::Start;
 use crate::touch::{Touch, touch, touches_conflict};
 
 /// A machine with files of the right lengths and anything in them, all open.
 pub fn any_machine(random: &mut Random) -> Machine {
-    let files = expand(&Contents {
-        seed: random.next_u64(),
-        z_length: Z_FILE_BYTES as u32,
-        p_length: P_FILE_BYTES as u32,
-        zt_length: ZT0_FILE_BYTES as u32,
-        p_at: NO_OVERRIDE,
-        p_value: 0,
-        z_at: NO_OVERRIDE,
-        z_value: 0,
-    });
-    Machine {
-        z: files.z,
-        p: files.p,
-        zt0: files.zt0,
-        w: [(); 4].map(|()| random.next_u32()),
-        pc: random.next_u64(),
-        flags: Flags::OPEN,
-    }
+    Start::any(random, FULL).machine()
 }
 
 /// An allowed setting, one time in two with all features.

@@ -10,7 +10,6 @@ use reference::samples::listing_words;
 use reference::step_questions;
 use reference::text::{
     ANSWER_BYTES, QUESTION_BYTES, STEP_ANSWER_BYTES, STEP_QUESTION_BYTES, answer_line,
-    step_answer_line,
 };
 
 fn start(arguments: &[&str]) -> Child {
@@ -68,7 +67,7 @@ fn steps_and_conflicts() {
     );
     let expected_steps: String = step_questions::generate(5)
         .iter()
-        .map(|question| step_answer_line(&question.answer()))
+        .map(|question| answer_line(&question.answer()))
         .collect();
     let expected_conflicts: String = conflict_questions::generate(5)
         .iter()
