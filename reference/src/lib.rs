@@ -33,8 +33,11 @@
 //! - [`start`], [`expand`](mod@expand): what a step or a run starts from, and
 //!   how its machine is made from a few numbers
 //! - [`text`]: questions and answers as lines of fixed width
-//! - [`questions`], [`step_questions`], [`conflict_questions`]: the lists of
-//!   questions put to both programs
+//! - [`questions`], [`step_questions`], [`conflict_questions`],
+//!   [`run_questions`], [`permission_questions`]: the lists of questions put
+//!   to both programs
+//! - [`cases`]: stretches with orders for them, from which the last two are
+//!   made
 //! - [`samples`], [`roles`], [`stretches`], [`values`], [`random`]: seeded
 //!   words, fields, machines and stretches
 //! - [`once`]: lists without duplicates
@@ -46,12 +49,15 @@
 //! reference questions [SEED]            prints questions of kinds 0 to 6
 //! reference step-questions [SEED]       prints questions of kind 7
 //! reference conflict-questions [SEED]   prints questions of kind 8
+//! reference run-questions [SEED]        prints questions of kind 9
+//! reference permitted-questions [SEED]  prints questions of kind 10
 //! reference answers                     questions on stdin, answers on stdout
 //! reference listing-words SEED COUNT    prints raw words for the lister
 //! ```
 
 pub mod access;
 pub mod bits;
+pub mod cases;
 pub mod conflict_questions;
 pub mod counter;
 pub mod decode;
@@ -64,6 +70,7 @@ pub mod machine;
 pub mod once;
 pub mod operations;
 pub mod permission_question;
+pub mod permission_questions;
 pub mod question;
 pub mod questions;
 pub mod random;
@@ -72,6 +79,7 @@ pub mod refusal;
 pub mod roles;
 pub mod run;
 pub mod run_question;
+pub mod run_questions;
 pub mod samples;
 pub mod setting;
 pub mod start;

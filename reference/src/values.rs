@@ -75,6 +75,21 @@ pub const NOTED_COUNTERS: [u16; 15] = [
     0x0007, 0x0081, 0x8021,
 ];
 
+/// Lengths of the three files, Z, P and ZT0, of which at least one is wrong:
+/// a byte short, a byte long, and empty.
+pub const WRONG_LENGTHS: [(u32, u32, u32); 10] = [
+    (8191, 512, 64),
+    (8193, 512, 64),
+    (0, 512, 64),
+    (8192, 511, 64),
+    (8192, 513, 64),
+    (8192, 0, 64),
+    (8192, 512, 63),
+    (8192, 512, 65),
+    (8192, 512, 0),
+    (0, 0, 0),
+];
+
 /// The words printed in document 01: the points on the board and the lister's
 /// example.
 pub const PRINTED_WORDS: [u32; 16] = [

@@ -9,7 +9,7 @@ use reference::setting::{FULL, VECTOR_LENGTHS, vl_is_allowed};
 use reference::step_question::StepQuestion;
 use reference::step_questions::generate;
 use reference::text::{STEP_QUESTION_BYTES, read_step_question, step_question_line};
-use reference::values::{FEATURES_ABOVE, LENGTHS_NOT_ALLOWED};
+use reference::values::{FEATURES_ABOVE, LENGTHS_NOT_ALLOWED, WRONG_LENGTHS};
 
 const SEEDS: [u64; 2] = [1, u64::MAX];
 
@@ -252,18 +252,7 @@ fn every_feature_number_and_length() {
                     .any(|q| q.start.pc == pc && q.answer()[0] == 0);
                 assert!(asked, "{pc:x}");
             }
-            for (z, p, zt) in [
-                (8191, 512, 64),
-                (8193, 512, 64),
-                (0, 512, 64),
-                (8192, 511, 64),
-                (8192, 513, 64),
-                (8192, 0, 64),
-                (8192, 512, 63),
-                (8192, 512, 65),
-                (8192, 512, 0),
-                (0, 0, 0),
-            ] {
+            for (z, p, zt) in WRONG_LENGTHS {
                 assert!(of_form.iter().any(|q| {
                     let c = q.start.contents;
                     (c.z_length, c.p_length, c.zt_length) == (z, p, zt) && q.answer()[0] == 2
