@@ -3,73 +3,22 @@
 //! Every pair is asked in both orders. Words are made by giving a register to
 //! one of a form's roles; the rest is anything.
 
-use std::collections::HashSet;
-
 use crate::encode::encode;
 use crate::instruction::{Form, Instruction};
+use crate::once::Once;
 use crate::question::Question;
 use crate::random::Random;
+use crate::roles::{
+    PREDICATE_FORMS, PREDICATES_READ, PREDICATES_WRITTEN, Role, VECTOR_FORMS, VECTORS_READ,
+    VECTORS_WRITTEN, apart, word_with,
+};
 use crate::samples;
 use crate::setting::{ALL_FEATURES, FULL, Setting, VECTOR_LENGTHS, features_are_allowed};
 use crate::values::{FEATURES_ABOVE, LENGTHS_NOT_ALLOWED, PRINTED_WORDS};
 
-/// What a register is to a word: the field it is given by, and how far it is
-/// from that field's number.
-#[derive(Clone, Copy)]
-struct Role {
-    form: Form,
-    field: usize,
-    distance: u32,
-}
-
-const fn role(form: Form, field: usize, distance: u32) -> Role {
-    Role {
-        form,
-        field,
-        distance,
-    }
-}
-
-const PREDICATES_WRITTEN: [Role; 4] = [
-    role(Form::Pext1, 3, 0),
-    role(Form::Pext2, 3, 0),
-    role(Form::Pext2, 3, 1),
-    role(Form::Dup, 5, 0),
-];
-
-const PREDICATES_READ: [Role; 4] = [
-    role(Form::Pext1, 2, 0),
-    role(Form::Pext2, 2, 0),
-    role(Form::Dup, 3, 0),
-    role(Form::Dup, 4, 0),
-];
-
-const VECTORS_WRITTEN: [Role; 9] = [
-    role(Form::Luti4c, 3, 0),
-    role(Form::Luti4c, 3, 1),
-    role(Form::Luti4c, 3, 2),
-    role(Form::Luti4c, 3, 3),
-    role(Form::Luti4s, 3, 0),
-    role(Form::Luti4s, 3, 4),
-    role(Form::Luti4s, 3, 8),
-    role(Form::Luti4s, 3, 12),
-    role(Form::Uqrshrnb, 3, 0),
-];
-
-const VECTORS_READ: [Role; 3] = [
-    role(Form::Luti4c, 2, 0),
-    role(Form::Luti4s, 2, 0),
-    role(Form::Uqrshrnb, 2, 0),
-];
-
-/// PEXT1, PEXT2 and DUP touch only predicates, the others only vectors.
-const PREDICATE_FORMS: [Form; 3] = [Form::Pext1, Form::Pext2, Form::Dup];
-const VECTOR_FORMS: [Form; 3] = [Form::Luti4c, Form::Luti4s, Form::Uqrshrnb];
-
 pub fn generate(seed: u64) -> Vec<Question> {
     let mut list = List {
-        questions: Vec::new(),
-        seen: HashSet::new(),
+        questions: Once::new(),
         random: Random::new(seed),
     };
     list.one_register_in_two_roles();
@@ -80,12 +29,11 @@ pub fn generate(seed: u64) -> Vec<Question> {
     list.every_feature_number();
     list.lengths_not_allowed();
     list.undefined_words();
-    list.questions
+    list.questions.into_list()
 }
 
 struct List {
-    questions: Vec<Question>,
-    seen: HashSet<Question>,
+    questions: Once<Question>,
     random: Random,
 }
 
@@ -93,14 +41,11 @@ impl List {
     /// Asked in both orders, each once.
     fn add(&mut self, setting: Setting, a: u32, b: u32) {
         for (first, second) in [(a, b), (b, a)] {
-            let question = Question::Conflict {
+            self.questions.add(Question::Conflict {
                 setting,
                 first,
                 second,
-            };
-            if self.seen.insert(question) {
-                self.questions.push(question);
-            }
+            });
         }
     }
 
@@ -110,20 +55,6 @@ impl List {
             vl: self.random.pick(&VECTOR_LENGTHS),
             features: ALL_FEATURES,
         }
-    }
-
-    /// A word in which the register has the role, if it can have it.
-    fn word_with(&mut self, role: Role, register: u32) -> Option<u32> {
-        let mut fields = samples::fields_in_range(&mut self.random, role.form);
-        let registers = if PREDICATE_FORMS.contains(&role.form) {
-            16
-        } else {
-            32
-        };
-        // PEXT2's pair goes around; the four of LUTI4 never do, and a first
-        // one that is none is not encoded.
-        fields[role.field] = (register + registers - role.distance) % registers;
-        encode(FULL, Instruction::from_fields(role.form, fields)).ok()
     }
 
     /// Every role that writes with every role, on one register: always yes.
@@ -154,7 +85,9 @@ impl List {
 
     fn ask_roles(&mut self, a: Role, b: Role, register: u32) -> bool {
         let setting = self.all_features();
-        match (self.word_with(a, register), self.word_with(b, register)) {
+        let first = word_with(&mut self.random, a, register);
+        let second = word_with(&mut self.random, b, register);
+        match (first, second) {
             (Some(a), Some(b)) => {
                 self.add(setting, a, b);
                 true
@@ -171,7 +104,7 @@ impl List {
                 for _ in 0..3 {
                     let register = 8 + self.random.below(8);
                     let setting = self.all_features();
-                    let (first, second) = self.apart(a, b, register);
+                    let (first, second) = apart(&mut self.random, a, b, register);
                     self.add(setting, first, second);
                 }
             }
@@ -181,56 +114,11 @@ impl List {
                 for _ in 0..4 {
                     let register = self.random.below(32);
                     let setting = self.all_features();
-                    let (first, second) = self.apart(a, b, register);
+                    let (first, second) = apart(&mut self.random, a, b, register);
                     self.add(setting, first, second);
                 }
             }
         }
-    }
-
-    /// Words that read a register in these roles and otherwise have no
-    /// register in common. This is tried until it is so, and told by all the
-    /// registers of both fields, not by the table of what is touched.
-    fn apart(&mut self, a: Role, b: Role, register: u32) -> (u32, u32) {
-        loop {
-            let (Some(first), Some(second)) =
-                (self.word_with(a, register), self.word_with(b, register))
-            else {
-                continue;
-            };
-            if !self.share_another(a, first, b, second, register) {
-                return (first, second);
-            }
-        }
-    }
-
-    fn share_another(&self, a: Role, first: u32, b: Role, second: u32, register: u32) -> bool {
-        let others = |role: Role, word: u32| -> Vec<u32> {
-            let fields = crate::decode::decode(FULL, word)
-                .expect("encoded under the same setting")
-                .fields();
-            let written = fields[role.form.field_count() - 1];
-            match role.form {
-                Form::Pext1 | Form::Uqrshrnb => vec![written],
-                Form::Pext2 => vec![written, (written + 1) % 16],
-                Form::Dup => vec![fields[3], fields[4], written],
-                Form::Luti4c => (0..4).map(|r| written + r).collect(),
-                Form::Luti4s => (0..4).map(|r| written + 4 * r).collect(),
-            }
-        };
-        let mut of_first = others(a, first);
-        let mut of_second = others(b, second);
-        // DUP lists what it reads too, the shared register among it; that is
-        // left out once, so that it still counts where it is written.
-        if a.form == Form::Dup {
-            of_first.remove(a.field - 3);
-        }
-        if b.form == Form::Dup {
-            of_second.remove(b.field - 3);
-        }
-        of_first.contains(&register)
-            || of_second.contains(&register)
-            || of_first.iter().any(|other| of_second.contains(other))
     }
 
     /// Z3 beside P3: one number in every field of both words that takes it.
@@ -349,24 +237,10 @@ impl List {
 #[cfg(test)]
 mod tests {
     use super::*;
+    use crate::once::check_list;
 
     #[test]
-    fn the_seed_decides() {
-        assert_eq!(generate(7), generate(7));
-        assert_ne!(generate(7), generate(8));
-    }
-
-    #[test]
-    fn about_two_thousand_without_duplicates() {
-        for seed in [0, 1, 2, u64::MAX] {
-            let questions = generate(seed);
-            assert!(
-                (1700..=2300).contains(&questions.len()),
-                "{}",
-                questions.len()
-            );
-            let distinct: HashSet<&Question> = questions.iter().collect();
-            assert_eq!(distinct.len(), questions.len());
-        }
+    fn about_two_thousand() {
+        check_list(generate, 1700..=2300);
     }
 }

@@ -28,13 +28,19 @@
 //!
 //! and what is needed to compare:
 //!
-//! - [`question`], [`step_question`]: one question and its answer
-//! - [`expand`](mod@expand): how a machine is made from a few numbers
+//! - [`question`], [`step_question`], [`run_question`],
+//!   [`permission_question`]: one question and its answer
+//! - [`start`], [`expand`](mod@expand): what a step or a run starts from, and
+//!   how its machine is made from a few numbers
 //! - [`text`]: questions and answers as lines of fixed width
-//! - [`questions`], [`step_questions`], [`conflict_questions`]: the lists of
-//!   questions put to both programs
-//! - [`samples`], [`stretches`], [`values`], [`random`]: seeded words, fields,
-//!   machines and stretches
+//! - [`questions`], [`step_questions`], [`conflict_questions`],
+//!   [`run_questions`], [`permission_questions`]: the lists of questions put
+//!   to both programs
+//! - [`cases`]: stretches with orders for them, from which the last two are
+//!   made
+//! - [`samples`], [`roles`], [`stretches`], [`values`], [`random`]: seeded
+//!   words, fields, machines and stretches
+//! - [`once`]: lists without duplicates
 //!
 //! The binary `reference` gives all of this on the command line:
 //!
@@ -43,12 +49,15 @@
 //! reference questions [SEED]            prints questions of kinds 0 to 6
 //! reference step-questions [SEED]       prints questions of kind 7
 //! reference conflict-questions [SEED]   prints questions of kind 8
+//! reference run-questions [SEED]        prints questions of kind 9
+//! reference permitted-questions [SEED]  prints questions of kind 10
 //! reference answers                     questions on stdin, answers on stdout
 //! reference listing-words SEED COUNT    prints raw words for the lister
 //! ```
 
 pub mod access;
 pub mod bits;
+pub mod cases;
 pub mod conflict_questions;
 pub mod counter;
 pub mod decode;
@@ -58,15 +67,22 @@ pub mod instruction;
 pub mod layout;
 pub mod lister;
 pub mod machine;
+pub mod once;
 pub mod operations;
+pub mod permission_question;
+pub mod permission_questions;
 pub mod question;
 pub mod questions;
 pub mod random;
 pub mod rearrangement;
 pub mod refusal;
+pub mod roles;
 pub mod run;
+pub mod run_question;
+pub mod run_questions;
 pub mod samples;
 pub mod setting;
+pub mod start;
 pub mod step;
 pub mod step_question;
 pub mod step_questions;

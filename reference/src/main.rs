@@ -5,16 +5,19 @@ use std::process::ExitCode;
 
 use reference::conflict_questions;
 use reference::lister::list_stream;
+use reference::permission_questions;
 use reference::questions::{self, DEFAULT_SEED};
+use reference::run_questions;
 use reference::samples::listing_words;
 use reference::step_questions;
 use reference::text::{
-    KIND_BYTES, answer_line, question_bytes, question_line, read_question, read_step_question,
-    step_answer_line, step_question_line,
+    self, answer_line, permission_question_line, question_line, run_question_line,
+    step_question_line,
 };
 
 const USAGE: &str = "usage: reference list | questions [SEED] | step-questions [SEED] \
-                     | conflict-questions [SEED] | answers | listing-words SEED COUNT";
+                     | conflict-questions [SEED] | run-questions [SEED] \
+                     | permitted-questions [SEED] | answers | listing-words SEED COUNT";
 
 enum Failure {
     /// Called in a wrong way.
@@ -62,8 +65,8 @@ fn run(arguments: &[String], output: &mut impl Write) -> Result<(), Failure> {
         ["list"] => Ok(list_stream(&mut io::stdin().lock(), output)?),
         ["answers"] => print_answers(&mut BufReader::new(io::stdin().lock()), output),
         ["listing-words", seed, count] => print_words(number(seed)?, number(count)?, output),
-        [kind] => print_questions(kind, DEFAULT_SEED, output),
-        [kind, seed] if is_question_kind(kind) => print_questions(kind, number(seed)?, output),
+        [name] => print_questions(question_command(name)?, DEFAULT_SEED, output),
+        [name, seed] => print_questions(question_command(name)?, number(seed)?, output),
         _ => Err(Failure::Use(USAGE.to_string())),
     }
 }
@@ -73,27 +76,43 @@ fn number(text: &str) -> Result<u64, Failure> {
         .map_err(|_| Failure::Use(format!("{text:?} is not a number from 0 to 2^64 - 1")))
 }
 
-fn is_question_kind(kind: &str) -> bool {
-    ["questions", "step-questions", "conflict-questions"].contains(&kind)
+/// The commands that print questions, each with the lines for a seed.
+type Lines = fn(u64) -> Vec<String>;
+const QUESTION_COMMANDS: [(&str, Lines); 5] = [
+    ("questions", |seed| {
+        lines(&questions::generate(seed), question_line)
+    }),
+    ("step-questions", |seed| {
+        lines(&step_questions::generate(seed), step_question_line)
+    }),
+    ("conflict-questions", |seed| {
+        lines(&conflict_questions::generate(seed), question_line)
+    }),
+    ("run-questions", |seed| {
+        lines(&run_questions::generate(seed), run_question_line)
+    }),
+    ("permitted-questions", |seed| {
+        lines(
+            &permission_questions::generate(seed),
+            permission_question_line,
+        )
+    }),
+];
+
+fn lines<Q>(questions: &[Q], line: fn(&Q) -> String) -> Vec<String> {
+    questions.iter().map(line).collect()
 }
 
-fn print_questions(kind: &str, seed: u64, output: &mut impl Write) -> Result<(), Failure> {
-    let lines: Vec<String> = match kind {
-        "questions" => questions::generate(seed)
-            .iter()
-            .map(question_line)
-            .collect(),
-        "conflict-questions" => conflict_questions::generate(seed)
-            .iter()
-            .map(question_line)
-            .collect(),
-        "step-questions" => step_questions::generate(seed)
-            .iter()
-            .map(step_question_line)
-            .collect(),
-        _ => return Err(Failure::Use(USAGE.to_string())),
-    };
-    for line in lines {
+fn question_command(name: &str) -> Result<Lines, Failure> {
+    QUESTION_COMMANDS
+        .into_iter()
+        .find(|(command, _)| *command == name)
+        .map(|(_, lines)| lines)
+        .ok_or(Failure::Use(USAGE.to_string()))
+}
+
+fn print_questions(lines: Lines, seed: u64, output: &mut impl Write) -> Result<(), Failure> {
+    for line in lines(seed) {
         output.write_all(line.as_bytes())?;
     }
     Ok(())
@@ -110,34 +129,33 @@ fn print_answers(input: &mut impl Read, output: &mut impl Write) -> Result<(), F
     Ok(())
 }
 
-/// The answer's line for a question's line, whose length tells the two
-/// formats apart.
+/// The answer's line for a question's line.
 fn answer_to(line: &[u8]) -> Result<String, String> {
-    if let Ok(line) = line.try_into() {
-        read_question(line).map(|question| answer_line(&question.answer()))
-    } else if let Ok(line) = line.try_into() {
-        read_step_question(line).map(|question| step_answer_line(&question.answer()))
-    } else {
-        Err("not a question".to_string())
-    }
+    Ok(match text::kind_of(line)? {
+        text::STEP_KIND => answer_line(&text::read_step_question(line)?.answer()),
+        text::RUN_KIND => answer_line(&text::read_run_question(line)?.answer()),
+        text::PERMISSION_KIND => answer_line(&text::read_permission_question(line)?.answer()),
+        _ => answer_line(&text::read_question(line)?.answer()),
+    })
 }
 
-/// The next question's bytes; its kind says how many they are.
+/// The next question's bytes; those read already say how many they are.
 fn next_line(input: &mut impl Read, place: u64) -> Result<Option<Vec<u8>>, Failure> {
-    let cut = || Failure::Input(format!("question {place}: the input ends inside it"));
-    let mut kind = [0u8; KIND_BYTES];
-    match fill(input, &mut kind)? {
-        0 => return Ok(None),
-        KIND_BYTES => {}
-        _ => return Err(cut()),
+    let problem = |what: String| Failure::Input(format!("question {place}: {what}"));
+    let mut line = Vec::new();
+    loop {
+        let held = line.len();
+        let known = text::question_bytes(&line).map_err(problem)?;
+        if held == known {
+            return Ok(Some(line));
+        }
+        line.resize(known, 0);
+        match held + fill(input, &mut line[held..])? {
+            0 => return Ok(None),
+            now if now < known => return Err(problem("the input ends inside it".to_string())),
+            _ => {}
+        }
     }
-    let mut line = kind.to_vec();
-    line.resize(question_bytes(&kind), 0);
-    let rest = &mut line[KIND_BYTES..];
-    if fill(input, rest)? < rest.len() {
-        return Err(cut());
-    }
-    Ok(Some(line))
 }
 
 /// Reads until the buffer is full or the input ends, and says how much.

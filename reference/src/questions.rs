@@ -5,9 +5,8 @@
 //! case; the seed only fills in what may be anything. A question that comes up
 //! twice is kept once.
 
-use std::collections::HashSet;
-
 use crate::instruction::Form;
+use crate::once::Once;
 use crate::question::Question;
 use crate::random::Random;
 use crate::samples;
@@ -19,8 +18,7 @@ pub const DEFAULT_SEED: u64 = 1;
 
 pub fn generate(seed: u64) -> Vec<Question> {
     let mut list = List {
-        questions: Vec::new(),
-        seen: HashSet::new(),
+        questions: Once::new(),
         random: Random::new(seed),
     };
     list.printed_words();
@@ -36,20 +34,17 @@ pub fn generate(seed: u64) -> Vec<Question> {
     list.every_immediate();
     list.several_fields_out_of_range();
     list.fields_in_range();
-    list.questions
+    list.questions.into_list()
 }
 
 struct List {
-    questions: Vec<Question>,
-    seen: HashSet<Question>,
+    questions: Once<Question>,
     random: Random,
 }
 
 impl List {
     fn add(&mut self, question: Question) {
-        if self.seen.insert(question) {
-            self.questions.push(question);
-        }
+        self.questions.add(question);
     }
 
     fn decode(&mut self, setting: Setting, word: u32) {
@@ -308,24 +303,10 @@ impl List {
 #[cfg(test)]
 mod tests {
     use super::*;
+    use crate::once::check_list;
 
     #[test]
-    fn the_seed_decides() {
-        assert_eq!(generate(7), generate(7));
-        assert_ne!(generate(7), generate(8));
-    }
-
-    #[test]
-    fn five_to_six_thousand_without_duplicates() {
-        for seed in [0, 1, 2, 3, u64::MAX] {
-            let questions = generate(seed);
-            assert!(
-                (5000..=6000).contains(&questions.len()),
-                "{}",
-                questions.len()
-            );
-            let distinct: HashSet<&Question> = questions.iter().collect();
-            assert_eq!(distinct.len(), questions.len());
-        }
+    fn five_to_six_thousand() {
+        check_list(generate, 5000..=6000);
     }
 }

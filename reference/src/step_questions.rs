@@ -10,23 +10,19 @@ mod forms;
 mod overlaps;
 mod refusals;
 
-use std::collections::HashSet;
-
 use crate::encode::encode;
-use crate::expand::{Contents, NO_OVERRIDE};
 use crate::instruction::{Form, Instruction};
-use crate::machine::{
-    Flags, P_FILE_BYTES, P_SLOT_BYTES, Z_FILE_BYTES, Z_SLOT_BYTES, ZT0_FILE_BYTES,
-};
+use crate::machine::Z_SLOT_BYTES;
+use crate::once::Once;
 use crate::random::Random;
 use crate::samples;
 use crate::setting::{ALL_FEATURES, FULL, Setting, VECTOR_LENGTHS};
+use crate::start::Start;
 use crate::step_question::StepQuestion;
 
 pub fn generate(seed: u64) -> Vec<StepQuestion> {
     let mut list = List {
-        questions: Vec::new(),
-        seen: HashSet::new(),
+        questions: Once::new(),
         random: Random::new(seed),
     };
     list.forms();
@@ -34,20 +30,17 @@ pub fn generate(seed: u64) -> Vec<StepQuestion> {
     list.elements();
     list.overlaps();
     list.refusals();
-    list.questions
+    list.questions.into_list()
 }
 
 struct List {
-    questions: Vec<StepQuestion>,
-    seen: HashSet<StepQuestion>,
+    questions: Once<StepQuestion>,
     random: Random,
 }
 
 impl List {
     fn add(&mut self, question: StepQuestion) {
-        if self.seen.insert(question) {
-            self.questions.push(question);
-        }
+        self.questions.add(question);
     }
 
     fn any_length(&mut self) -> u32 {
@@ -72,26 +65,10 @@ impl List {
     /// A word on any machine with everything allowed and open. PC is a
     /// multiple of 4 here.
     fn open(&mut self, vl: u32, word: u32) -> StepQuestion {
-        StepQuestion {
-            setting: Setting {
-                vl,
-                features: ALL_FEATURES,
-            },
-            word,
-            flags: Flags::OPEN,
-            w: [(); 4].map(|()| self.random.next_u32()),
-            pc: self.random.next_u64() & !3,
-            contents: Contents {
-                seed: self.random.next_u64(),
-                z_length: Z_FILE_BYTES as u32,
-                p_length: P_FILE_BYTES as u32,
-                zt_length: ZT0_FILE_BYTES as u32,
-                p_at: NO_OVERRIDE,
-                p_value: 0,
-                z_at: NO_OVERRIDE,
-                z_value: 0,
-            },
-        }
+        let features = ALL_FEATURES;
+        let mut start = Start::any(&mut self.random, Setting { vl, features });
+        start.pc &= !3;
+        StepQuestion { start, word }
     }
 
     /// The same for an instruction given by its fields.
@@ -109,22 +86,20 @@ fn word_of(form: Form, fields: [u32; 6]) -> u32 {
 impl StepQuestion {
     /// With the low 16 bits of a P register chosen.
     fn with_predicate(mut self, register: u32, value: u16) -> StepQuestion {
-        self.contents.p_at = register * P_SLOT_BYTES as u32;
-        self.contents.p_value = value;
+        self.start.set_predicate(register, value);
         self
     }
 
     /// With the 32 bits from a byte of a Z register chosen.
     fn with_vector(mut self, register: u32, byte: u32, value: u32) -> StepQuestion {
-        self.contents.z_at = register * Z_SLOT_BYTES as u32 + byte;
-        self.contents.z_value = value;
+        self.start.set_vector(register, byte, value);
         self
     }
 
     /// With a 64-bit element of a Z register chosen, by a seed that gives it.
     fn with_wide_element(mut self, register: u32, element: u32, value: u64) -> StepQuestion {
         let place = register * Z_SLOT_BYTES as u32 / 8 + element;
-        self.contents.seed = Random::seed_for(value, u64::from(place));
+        self.start.contents.seed = Random::seed_for(value, u64::from(place));
         self
     }
 }
@@ -132,40 +107,28 @@ impl StepQuestion {
 #[cfg(test)]
 mod tests {
     use super::*;
+    use crate::once::check_list;
 
     #[test]
-    fn the_seed_decides() {
-        assert_eq!(generate(7), generate(7));
-        assert_ne!(generate(7), generate(8));
-    }
-
-    #[test]
-    fn three_to_four_thousand_without_duplicates() {
-        for seed in [0, 1, 2, u64::MAX] {
-            let questions = generate(seed);
-            assert!(
-                (3000..=4000).contains(&questions.len()),
-                "{}",
-                questions.len()
-            );
-            let distinct: HashSet<&StepQuestion> = questions.iter().collect();
-            assert_eq!(distinct.len(), questions.len());
-        }
+    fn three_to_four_thousand() {
+        check_list(generate, 3000..=4000);
     }
 
     #[test]
     fn what_is_chosen_is_there() {
         let mut list = List {
-            questions: Vec::new(),
-            seen: HashSet::new(),
+            questions: Once::new(),
             random: Random::new(5),
         };
         let question = list.open(512, 0);
-        let machine = question.with_predicate(15, 0x8021).machine();
+        let machine = question.with_predicate(15, 0x8021).start.machine();
         assert_eq!(machine.p[480..482], [0x21, 0x80]);
-        let machine = question.with_vector(31, 12, 0x0123_4567).machine();
+        let machine = question.with_vector(31, 12, 0x0123_4567).start.machine();
         assert_eq!(machine.z[7948..7952], [0x67, 0x45, 0x23, 0x01]);
-        let machine = question.with_wide_element(30, 3, u64::MAX - 1).machine();
+        let machine = question
+            .with_wide_element(30, 3, u64::MAX - 1)
+            .start
+            .machine();
         assert_eq!(machine.z[7704..7712], (u64::MAX - 1).to_le_bytes());
     }
 }

@@ -1,35 +1,18 @@
 //! Seeded machines, stretches of words and orders for them, to run.
 
 use crate::decode::decode;
-use crate::expand::{Contents, NO_OVERRIDE, expand};
 use crate::instruction::Form;
 use crate::layout::has_features;
-use crate::machine::{Flags, Machine, P_FILE_BYTES, Z_FILE_BYTES, ZT0_FILE_BYTES};
+use crate::machine::Machine;
 use crate::random::Random;
 use crate::samples::matching_word;
-use crate::setting::{ALL_FEATURES, Setting, VECTOR_LENGTHS, features_are_allowed};
+use crate::setting::{ALL_FEATURES, FULL, Setting, VECTOR_LENGTHS, features_are_allowed};
+use crate::start::Start;
 use crate::touch::{Touch, touch, touches_conflict};
 
 /// A machine with files of the right lengths and anything in them, all open.
 pub fn any_machine(random: &mut Random) -> Machine {
-    let files = expand(&Contents {
-        seed: random.next_u64(),
-        z_length: Z_FILE_BYTES as u32,
-        p_length: P_FILE_BYTES as u32,
-        zt_length: ZT0_FILE_BYTES as u32,
-        p_at: NO_OVERRIDE,
-        p_value: 0,
-        z_at: NO_OVERRIDE,
-        z_value: 0,
-    });
-    Machine {
-        z: files.z,
-        p: files.p,
-        zt0: files.zt0,
-        w: [(); 4].map(|()| random.next_u32()),
-        pc: random.next_u64(),
-        flags: Flags::OPEN,
-    }
+    Start::any(random, FULL).machine()
 }
 
 /// An allowed setting, one time in two with all features.
@@ -55,6 +38,11 @@ pub fn any_stretch(random: &mut Random, setting: Setting, length: usize) -> Vec<
         .into_iter()
         .filter(|&form| has_features(form, setting))
         .collect();
+    stretch_of(random, &forms, length)
+}
+
+/// Words of these forms; none where there are no forms.
+pub fn stretch_of(random: &mut Random, forms: &[Form], length: usize) -> Vec<u32> {
     if forms.is_empty() {
         return Vec::new();
     }
@@ -64,36 +52,118 @@ pub fn any_stretch(random: &mut Random, setting: Setting, length: usize) -> Vec<
         if !words.is_empty() && random.below(8) == 0 {
             words.push(random.pick(&words));
         } else {
-            let form = random.pick(&forms);
+            let form = random.pick(forms);
             words.push(matching_word(random, form));
         }
     }
     words
 }
 
-/// Any order of defined words that keeps the order of conflicting ones: next
-/// comes any word that no earlier one still waiting conflicts with.
-pub fn any_permitted_order(random: &mut Random, setting: Setting, words: &[u32]) -> Vec<usize> {
+/// The words in another order: `order[i]` is the position of the i-th.
+pub fn rearranged(words: &[u32], order: &[usize]) -> Vec<u32> {
+    order.iter().map(|&position| words[position]).collect()
+}
+
+/// The positions, the earlier first, of any two defined words that conflict.
+pub fn conflicting_pairs(setting: Setting, words: &[u32]) -> Vec<(usize, usize)> {
     let touches: Vec<Touch> = words
         .iter()
         .map(|&word| touch(decode(setting, word).expect("the words are defined")))
         .collect();
+    let mut pairs = Vec::new();
+    for later in 0..words.len() {
+        for earlier in 0..later {
+            if touches_conflict(&touches[earlier], &touches[later]) {
+                pairs.push((earlier, later));
+            }
+        }
+    }
+    pairs
+}
+
+/// Any order of defined words that keeps the order of conflicting ones: next
+/// comes any word that no earlier one still waiting conflicts with.
+pub fn any_permitted_order(random: &mut Random, setting: Setting, words: &[u32]) -> Vec<usize> {
+    let pairs = conflicting_pairs(setting, words);
+    // How many earlier ones each word waits for.
+    let mut blockers = vec![0; words.len()];
+    for &(_, later) in &pairs {
+        blockers[later] += 1;
+    }
     let mut waiting: Vec<usize> = (0..words.len()).collect();
     let mut order = Vec::new();
     while !waiting.is_empty() {
         let free: Vec<usize> = waiting
             .iter()
             .copied()
-            .filter(|&position| {
-                !waiting.iter().any(|&earlier| {
-                    earlier < position && touches_conflict(&touches[earlier], &touches[position])
-                })
-            })
+            .filter(|&position| blockers[position] == 0)
             .collect();
         // The first that waits is always free.
         let next = random.pick(&free);
         waiting.retain(|&position| position != next);
         order.push(next);
+        for &(earlier, later) in &pairs {
+            blockers[later] -= usize::from(earlier == next);
+        }
     }
     order
+}
+
+/// An order of defined words in which some two that conflict have changed
+/// places; none where no two conflict.
+pub fn any_forbidden_order(
+    random: &mut Random,
+    setting: Setting,
+    words: &[u32],
+) -> Option<Vec<usize>> {
+    let pairs = conflicting_pairs(setting, words);
+    if pairs.is_empty() {
+        return None;
+    }
+    let (earlier, later) = random.pick(&pairs);
+    let mut order: Vec<usize> = (0..words.len()).collect();
+    match random.below(3) {
+        // Only the later word is moved, to just before the earlier one.
+        0 => order[earlier..=later].rotate_right(1),
+        // Neighbours in a permitted order, and nothing else.
+        1 => {
+            order = any_permitted_order(random, setting, words);
+            let places: Vec<usize> = (1..order.len())
+                .filter(|&place| pairs.contains(&(order[place - 1], order[place])))
+                .collect();
+            if places.is_empty() {
+                exchange(&mut order, earlier, later);
+            } else {
+                let place = random.pick(&places);
+                order.swap(place - 1, place);
+            }
+        }
+        // Everything anywhere.
+        _ => {
+            shuffle(random, &mut order);
+            let place = |position| order.iter().position(|&p| p == position);
+            if place(earlier) < place(later) {
+                exchange(&mut order, earlier, later);
+            }
+        }
+    }
+    Some(order)
+}
+
+pub fn shuffle(random: &mut Random, order: &mut [usize]) {
+    for place in 1..order.len() {
+        let other = random.below(place as u32 + 1) as usize;
+        order.swap(place, other);
+    }
+}
+
+/// Lets two positions change places.
+fn exchange(order: &mut [usize], a: usize, b: usize) {
+    for position in order {
+        if *position == a {
+            *position = b;
+        } else if *position == b {
+            *position = a;
+        }
+    }
 }

@@ -1,40 +1,94 @@
 //! Questions and answers as lines of text: numbers of exactly eight
 //! lower-case hex digits, one space between them, a newline after the last.
+//! So each number takes nine bytes with what follows it.
 //!
-//! The first number of a question is its kind, which also decides how long
-//! the line is.
+//! The first number of a question is its kind. Every question has at least
+//! nine numbers (81 bytes); these, or a further part of fixed length, tell how
+//! many more there are.
 //!
-//! Kinds 0 to 6 and 8 are `kind vl features n1 n2 n3 n4 n5 n6` (81 bytes).
+//! **Kinds 0 to 6 and 8** are `kind vl features n1 n2 n3 n4 n5 n6` (81 bytes).
 //! Kind 0 is decode with n1 the word; kinds 1 to 6 are encode of that form
 //! with its fields in order; kind 8 asks whether the words n1 and n2 conflict.
-//! Places that are not used are 0. Their answers have eight numbers.
+//! Places that are not used are 0. Their answers have eight numbers (72
+//! bytes), told in `question`.
 //!
-//! Kind 7 is a step, twenty numbers (180 bytes):
-//! `kind vl features word flags w12 w13 w14 w15 pc_high pc_low seed_high
-//! seed_low z_length p_length zt_length p_at p_value z_at z_value`, with the
-//! files made as `expand` says. Its answer has fourteen numbers.
+//! **Kind 7** is a step, twenty numbers (180 bytes):
+//!
+//! ```text
+//! 00000007 vl features word flags w12 w13 w14 w15
+//!   pc_high pc_low seed_high seed_low z_length p_length zt_length
+//!   p_at p_value z_at z_value
+//! ```
+//!
+//! on one line, with the files made as `expand` says. Its answer has fourteen
+//! numbers (126 bytes):
+//!
+//! ```text
+//! number w12 w13 w14 w15 pc_high pc_low flags
+//!   z_hash_high z_hash_low p_hash_high p_hash_low zt_hash_high zt_hash_low
+//! ```
+//!
+//! **Kind 9** is a run, twenty numbers (180 bytes) and as many words as the
+//! last of the twenty says:
+//!
+//! ```text
+//! 00000009 vl features flags w12 w13 w14 w15 pc_high
+//!   pc_low seed_high seed_low z_length p_length zt_length
+//!   p_at p_value z_at z_value count
+//!   word ... word
+//! ```
+//!
+//! on one line. These are the numbers of kind 7 without its word, then the
+//! count, then the stretch, the first word first; with no words the newline
+//! follows the count. Its answer has fifteen numbers (135 bytes), those of
+//! kind 7's with the number of words done after the first:
+//!
+//! ```text
+//! number done w12 w13 w14 w15 pc_high pc_low flags
+//!   z_hash_high z_hash_low p_hash_high p_hash_low zt_hash_high zt_hash_low
+//! ```
+//!
+//! **Kind 10** (`0000000a`) asks whether an order of a stretch is a permitted
+//! rearrangement, nine numbers, the words and the order's entries:
+//!
+//! ```text
+//! 0000000a vl features word_count order_count 00000000 00000000 00000000 00000000
+//!   word ... word entry ... entry
+//! ```
+//!
+//! on one line. An entry is a position in the stretch, counted from 0: the
+//! first entry is that of the word that is to come first. The two counts need
+//! not be equal. Its answer has two numbers (18 bytes), `number permitted`,
+//! the second 1 or 0 (0 where refused).
 
-use crate::expand::Contents;
+mod machines;
+
 use crate::instruction::Form;
-use crate::machine::Flags;
-use crate::question::{Answer, Question};
+use crate::permission_question::PermissionQuestion;
+use crate::question::Question;
 use crate::setting::Setting;
-use crate::step_question::{StepAnswer, StepQuestion, from_halves, halves};
 
-pub const QUESTION_BYTES: usize = 81;
-pub const ANSWER_BYTES: usize = 72;
-pub const STEP_QUESTION_BYTES: usize = 180;
-pub const STEP_ANSWER_BYTES: usize = 126;
+pub use machines::{
+    LONGEST_FILE, STEP_QUESTION_BYTES, read_run_question, read_step_question, run_question_line,
+    step_question_line,
+};
 
-/// The bytes of a line that say what kind it is.
-pub const KIND_BYTES: usize = 8;
+/// A number and what follows it.
+pub const NUMBER_BYTES: usize = 9;
+pub const QUESTION_BYTES: usize = 9 * NUMBER_BYTES;
+pub const ANSWER_BYTES: usize = 8 * NUMBER_BYTES;
+pub const STEP_ANSWER_BYTES: usize = 14 * NUMBER_BYTES;
+pub const RUN_ANSWER_BYTES: usize = 15 * NUMBER_BYTES;
+pub const PERMISSION_ANSWER_BYTES: usize = 2 * NUMBER_BYTES;
 
-const STEP_KIND: u32 = 7;
-const CONFLICT_KIND: u32 = 8;
+pub const STEP_KIND: u32 = 7;
+pub const CONFLICT_KIND: u32 = 8;
+pub const RUN_KIND: u32 = 9;
+pub const PERMISSION_KIND: u32 = 10;
 
-/// A question is not asked about files longer than this, so that a wrong line
-/// cannot take all memory.
-pub const LONGEST_FILE: u32 = 1 << 20;
+/// A question is not asked about more words or entries than this, so that a
+/// wrong line cannot take all memory.
+pub const LONGEST_LIST: u32 = 1 << 16;
 
 pub fn question_line(question: &Question) -> String {
     let setting = question.setting();
@@ -46,54 +100,54 @@ pub fn question_line(question: &Question) -> String {
     numbers_line(&[kind, setting.vl, setting.features, a, b, c, d, e, f])
 }
 
-pub fn step_question_line(question: &StepQuestion) -> String {
-    let [w12, w13, w14, w15] = question.w;
-    let (pc_high, pc_low) = halves(question.pc);
-    let contents = &question.contents;
-    let (seed_high, seed_low) = halves(contents.seed);
-    numbers_line(&[
-        STEP_KIND,
-        question.setting.vl,
-        question.setting.features,
-        question.word,
-        question.flags.number(),
-        w12,
-        w13,
-        w14,
-        w15,
-        pc_high,
-        pc_low,
-        seed_high,
-        seed_low,
-        contents.z_length,
-        contents.p_length,
-        contents.zt_length,
-        contents.p_at,
-        u32::from(contents.p_value),
-        contents.z_at,
-        contents.z_value,
-    ])
+pub fn permission_question_line(question: &PermissionQuestion) -> String {
+    let Setting { vl, features } = question.setting;
+    let (words, order) = (&question.words, &question.order);
+    let counts = [words.len() as u32, order.len() as u32];
+    let start = [
+        PERMISSION_KIND,
+        vl,
+        features,
+        counts[0],
+        counts[1],
+        0,
+        0,
+        0,
+        0,
+    ];
+    numbers_line(&[&start, &words[..], &order[..]].concat())
 }
 
-pub fn answer_line(answer: &Answer) -> String {
+/// The line of an answer of any kind.
+pub fn answer_line(answer: &[u32]) -> String {
     numbers_line(answer)
 }
 
-pub fn step_answer_line(answer: &StepAnswer) -> String {
-    numbers_line(answer)
-}
-
-/// How long a question is that starts with these bytes.
-pub fn question_bytes(kind: &[u8; KIND_BYTES]) -> usize {
-    if kind == b"00000007" {
-        STEP_QUESTION_BYTES
-    } else {
-        QUESTION_BYTES
+/// How long a question is that starts with these bytes, as far as they tell.
+/// It is whole when it is that long; otherwise one asks again with that many.
+pub fn question_bytes(start: &[u8]) -> Result<usize, String> {
+    if start.len() < QUESTION_BYTES {
+        return Ok(QUESTION_BYTES);
+    }
+    match kind_of(start)? {
+        STEP_KIND => Ok(STEP_QUESTION_BYTES),
+        RUN_KIND => machines::run_question_bytes(start),
+        PERMISSION_KIND => {
+            let words = list_bytes(start, 3)?;
+            let order = list_bytes(start, 4)?;
+            Ok(QUESTION_BYTES + words + order)
+        }
+        _ => Ok(QUESTION_BYTES),
     }
 }
 
+/// The kind of a line of at least one number.
+pub fn kind_of(line: &[u8]) -> Result<u32, String> {
+    number_at(line, 0)
+}
+
 /// Refuses everything that `question_line` could not have written.
-pub fn read_question(line: &[u8; QUESTION_BYTES]) -> Result<Question, String> {
+pub fn read_question(line: &[u8]) -> Result<Question, String> {
     let [kind, vl, features, fields @ ..] = read_numbers::<9>(line)?;
     let setting = Setting { vl, features };
     let used = match (kind, Form::from_number(kind)) {
@@ -123,59 +177,35 @@ pub fn read_question(line: &[u8; QUESTION_BYTES]) -> Result<Question, String> {
     })
 }
 
-/// Refuses everything that `step_question_line` could not have written, and
-/// files that are too long.
-pub fn read_step_question(line: &[u8; STEP_QUESTION_BYTES]) -> Result<StepQuestion, String> {
+/// Refuses everything that `permission_question_line` could not have written.
+pub fn read_permission_question(line: &[u8]) -> Result<PermissionQuestion, String> {
+    let numbers = read_list(line)?;
     let [
-        kind,
+        PERMISSION_KIND,
         vl,
         features,
-        word,
-        flags,
-        w12,
-        w13,
-        w14,
-        w15,
-        pc_high,
-        pc_low,
-        seed_high,
-        seed_low,
-        z_length,
-        p_length,
-        zt_length,
-        p_at,
-        p_value,
-        z_at,
-        z_value,
-    ] = read_numbers::<20>(line)?;
-    if kind != STEP_KIND {
-        return Err(format!("there is no kind {kind:08x} of this length"));
-    }
-    let Some(flags) = Flags::from_number(flags) else {
-        return Err("the flags are more than three bits".to_string());
+        word_count,
+        order_count,
+        0,
+        0,
+        0,
+        0,
+        lists @ ..,
+    ] = &numbers[..]
+    else {
+        return Err("not a question of this kind".to_string());
     };
-    let Ok(p_value) = u16::try_from(p_value) else {
-        return Err("the value for the P file is more than 16 bits".to_string());
-    };
-    if z_length.max(p_length).max(zt_length) > LONGEST_FILE {
-        return Err("a file is too long to be asked about".to_string());
+    if lists.len() as u64 != u64::from(*word_count) + u64::from(*order_count) {
+        return Err("not as many numbers as it says".to_string());
     }
-    Ok(StepQuestion {
-        setting: Setting { vl, features },
-        word,
-        flags,
-        w: [w12, w13, w14, w15],
-        pc: from_halves(pc_high, pc_low),
-        contents: Contents {
-            seed: from_halves(seed_high, seed_low),
-            z_length,
-            p_length,
-            zt_length,
-            p_at,
-            p_value,
-            z_at,
-            z_value,
+    let (words, order) = lists.split_at(*word_count as usize);
+    Ok(PermissionQuestion {
+        setting: Setting {
+            vl: *vl,
+            features: *features,
         },
+        words: words.to_vec(),
+        order: order.to_vec(),
     })
 }
 
@@ -186,19 +216,48 @@ fn numbers_line(numbers: &[u32]) -> String {
 
 /// The numbers of a line of just so many.
 fn read_numbers<const COUNT: usize>(line: &[u8]) -> Result<[u32; COUNT], String> {
-    let problem = || format!("not {COUNT} numbers of eight lower-case hex digits on one line");
-    let mut numbers = [0u32; COUNT];
-    for (place, number) in numbers.iter_mut().enumerate() {
-        let piece = &line[9 * place..9 * place + 9];
-        for &digit in &piece[..8] {
-            *number = *number << 4 | digit_value(digit).ok_or_else(problem)?;
-        }
-        let expected = if place == COUNT - 1 { b'\n' } else { b' ' };
-        if piece[8] != expected {
-            return Err(problem());
+    read_list(line)?
+        .try_into()
+        .map_err(|_| format!("not {COUNT} numbers"))
+}
+
+/// The numbers of a line.
+fn read_list(line: &[u8]) -> Result<Vec<u32>, String> {
+    let count = line.len() / NUMBER_BYTES;
+    if count == 0 || !line.len().is_multiple_of(NUMBER_BYTES) {
+        return Err("not whole numbers on one line".to_string());
+    }
+    for (place, after) in line.iter().skip(8).step_by(NUMBER_BYTES).enumerate() {
+        let expected = if place == count - 1 { b'\n' } else { b' ' };
+        if *after != expected {
+            return Err("not single spaces and a newline at the end".to_string());
         }
     }
-    Ok(numbers)
+    (0..count).map(|place| number_at(line, place)).collect()
+}
+
+fn number_at(line: &[u8], place: usize) -> Result<u32, String> {
+    let digits = line.iter().skip(NUMBER_BYTES * place).take(8);
+    let mut number = 0;
+    let mut count = 0;
+    for &digit in digits {
+        let value = digit_value(digit).ok_or("not lower-case hex digits")?;
+        number = number << 4 | value;
+        count += 1;
+    }
+    if count < 8 {
+        return Err("not eight hex digits".to_string());
+    }
+    Ok(number)
+}
+
+/// The bytes of a list whose length is the number at this place.
+fn list_bytes(line: &[u8], place: usize) -> Result<usize, String> {
+    let count = number_at(line, place)?;
+    if count > LONGEST_LIST {
+        return Err("a list is too long to be asked about".to_string());
+    }
+    Ok(NUMBER_BYTES * count as usize)
 }
 
 fn digit_value(digit: u8) -> Option<u32> {
@@ -212,15 +271,9 @@ fn digit_value(digit: u8) -> Option<u32> {
 #[cfg(test)]
 mod tests {
     use super::*;
-    use crate::expand::NO_OVERRIDE;
 
     const LINE: &[u8; QUESTION_BYTES] =
         b"00000003 00000080 0000001f 00000040 00000001 0000000c 00000000 00000000 ffffffff\n";
-
-    const STEP_LINE: &[u8; STEP_QUESTION_BYTES] =
-        b"00000007 00000100 0000001f 25207010 00000005 0000000c 0000000d 0000000e 0000000f \
-          01234567 89abcdef 76543210 fedcba98 00002000 00000200 00000040 00000100 00008001 \
-          ffffffff 00000000\n";
 
     #[test]
     fn a_line_is_read_and_written() {
@@ -235,39 +288,6 @@ mod tests {
         };
         assert_eq!(question, expected);
         assert_eq!(question_line(&question).as_bytes(), LINE);
-    }
-
-    #[test]
-    fn a_step_line_is_read_and_written() {
-        let question = read_step_question(STEP_LINE).unwrap();
-        let expected = StepQuestion {
-            setting: Setting {
-                vl: 256,
-                features: 31,
-            },
-            word: 0x2520_7010,
-            flags: Flags {
-                v: true,
-                s: false,
-                t: true,
-            },
-            w: [12, 13, 14, 15],
-            pc: 0x0123_4567_89ab_cdef,
-            contents: Contents {
-                seed: 0x7654_3210_fedc_ba98,
-                z_length: 8192,
-                p_length: 512,
-                zt_length: 64,
-                p_at: 256,
-                p_value: 0x8001,
-                z_at: NO_OVERRIDE,
-                z_value: 0,
-            },
-        };
-        assert_eq!(question, expected);
-        assert_eq!(step_question_line(&question).as_bytes(), STEP_LINE);
-        let kind = STEP_LINE[..KIND_BYTES].try_into().unwrap();
-        assert_eq!(question_bytes(kind), STEP_QUESTION_BYTES);
     }
 
     #[test]
@@ -288,11 +308,43 @@ mod tests {
     }
 
     #[test]
+    fn a_permission_line_is_read_and_written() {
+        let line = b"0000000a 00000080 0000001f 00000002 00000003 00000000 00000000 00000000 \
+                     00000000 25207010 2520741f 00000001 00000000 ffffffff\n";
+        let question = read_permission_question(line).unwrap();
+        let expected = PermissionQuestion {
+            setting: crate::setting::FULL,
+            words: vec![0x2520_7010, 0x2520_741f],
+            order: vec![1, 0, u32::MAX],
+        };
+        assert_eq!(question, expected);
+        assert_eq!(permission_question_line(&question).as_bytes(), line);
+        assert_eq!(question_bytes(&line[..10]), Ok(81));
+        assert_eq!(question_bytes(&line[..81]), Ok(line.len()));
+        assert_eq!(question_bytes(line), Ok(line.len()));
+        let spoilt = |place: usize, byte: u8| {
+            let mut line = *line;
+            line[place] = byte;
+            (question_bytes(&line), read_permission_question(&line))
+        };
+        assert_eq!(spoilt(9 * 3 + 7, b'1').0, Ok(line.len() - 9));
+        assert!(spoilt(9 * 3 + 7, b'1').1.is_err()); // fewer words
+        assert!(spoilt(9 * 3, b'f').0.is_err()); // far too many
+        assert!(spoilt(9 * 4 + 2, b'1').0.is_err());
+        assert!(spoilt(9 * 5 + 7, b'1').1.is_err()); // a place not used
+        assert!(spoilt(9 * 9, b' ').1.is_err());
+        assert!(spoilt(0, b'x').0.is_err());
+    }
+
+    #[test]
     fn answer_lines_have_their_lengths() {
         let line = answer_line(&[9, 0, 0, 0, 0, 0, 0, 0]);
         assert_eq!(line.len(), ANSWER_BYTES);
         assert!(line.starts_with("00000009 00000000 "));
-        assert_eq!(step_answer_line(&[0; 14]).len(), STEP_ANSWER_BYTES);
+        assert_eq!(answer_line(&[0; 14]).len(), STEP_ANSWER_BYTES);
+        assert_eq!(answer_line(&[0; 15]).len(), RUN_ANSWER_BYTES);
+        assert_eq!(answer_line(&[3, 0]), "00000003 00000000\n");
+        assert_eq!(answer_line(&[0, 1]).len(), PERMISSION_ANSWER_BYTES);
     }
 
     #[test]
@@ -307,24 +359,10 @@ mod tests {
         assert!(spoilt(79, b'F').is_err());
         assert!(spoilt(0, b'-').is_err());
         assert!(spoilt(7, b'7').is_err()); // a step is longer
-        assert!(spoilt(7, b'9').is_err()); // no kind 9
+        assert!(spoilt(7, b'9').is_err()); // and so is a run
+        assert!(spoilt(7, b'b').is_err()); // no kind 11
         assert!(spoilt(7, b'0').is_err()); // decode with more than a word
         assert!(spoilt(7, b'1').is_err()); // PEXT1 with six fields
         assert!(spoilt(79, b'0').is_ok());
-    }
-
-    #[test]
-    fn other_step_lines_are_refused() {
-        let spoilt = |place: usize, byte: u8| {
-            let mut line = *STEP_LINE;
-            line[place] = byte;
-            read_step_question(&line)
-        };
-        assert!(spoilt(179, b' ').is_err());
-        assert!(spoilt(7, b'0').is_err());
-        assert!(spoilt(9 * 4 + 7, b'8').is_err()); // a fourth flag
-        assert!(spoilt(9 * 17 + 3, b'1').is_err()); // seventeen bits for P
-        assert!(spoilt(9 * 13, b'1').is_err()); // a Z file of 256 MiB
-        assert!(spoilt(9 * 4 + 7, b'7').is_ok());
     }
 }

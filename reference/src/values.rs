@@ -46,6 +46,50 @@ pub const LENGTHS_NOT_ALLOWED: [u32; 20] = [
     u32::MAX,
 ];
 
+/// The feature numbers under which the access flags are tried: with and
+/// without SVE2p1, SME, SME2 and SME2p1.
+pub const FEATURES_FOR_FLAGS: [u32; 7] = [3, 4, 7, 12, 28, 29, 31];
+
+/// Values of PC at the wrap, at halves' ends and off the multiples of 4.
+pub const PCS_OF_NOTE: [u64; 14] = [
+    0,
+    1,
+    2,
+    3,
+    0xffff_fffb,
+    0xffff_fffc,
+    0xffff_ffff,
+    0x7fff_ffff_ffff_fffc,
+    0xffff_ffff_ffff_fff8,
+    0xffff_ffff_ffff_fffb,
+    0xffff_ffff_ffff_fffc,
+    0xffff_ffff_ffff_fffd,
+    0xffff_ffff_ffff_fffe,
+    0xffff_ffff_ffff_ffff,
+];
+
+/// Predicate-as-counters: low nibble 0 with and without other bits, all true and all false, every
+/// bit, and document 01's.
+pub const NOTED_COUNTERS: [u16; 15] = [
+    0x0000, 0x8000, 0x0010, 0x8010, 0x7ff0, 0xfff0, 0x0001, 0x8001, 0x000f, 0x8008, 0x7fff, 0xffff,
+    0x0007, 0x0081, 0x8021,
+];
+
+/// Lengths of the three files, Z, P and ZT0, of which at least one is wrong:
+/// a byte short, a byte long, and empty.
+pub const WRONG_LENGTHS: [(u32, u32, u32); 10] = [
+    (8191, 512, 64),
+    (8193, 512, 64),
+    (0, 512, 64),
+    (8192, 511, 64),
+    (8192, 513, 64),
+    (8192, 0, 64),
+    (8192, 512, 63),
+    (8192, 512, 65),
+    (8192, 512, 0),
+    (0, 0, 0),
+];
+
 /// The words printed in document 01: the points on the board and the lister's
 /// example.
 pub const PRINTED_WORDS: [u32; 16] = [

@@ -5,12 +5,14 @@ use std::process::{Child, Command, Output, Stdio};
 
 use reference::conflict_questions;
 use reference::lister::list;
+use reference::permission_questions;
 use reference::questions::generate;
+use reference::run_questions;
 use reference::samples::listing_words;
 use reference::step_questions;
 use reference::text::{
-    ANSWER_BYTES, QUESTION_BYTES, STEP_ANSWER_BYTES, STEP_QUESTION_BYTES, answer_line,
-    step_answer_line,
+    ANSWER_BYTES, PERMISSION_ANSWER_BYTES, QUESTION_BYTES, RUN_ANSWER_BYTES, STEP_ANSWER_BYTES,
+    STEP_QUESTION_BYTES, answer_line,
 };
 
 fn start(arguments: &[&str]) -> Child {
@@ -52,36 +54,42 @@ fn questions_and_answers() {
     assert_eq!(answers.stdout, expected.as_bytes());
 }
 
+fn answers_of(answers: impl Iterator<Item = impl AsRef<[u32]>>) -> String {
+    answers.map(|answer| answer_line(answer.as_ref())).collect()
+}
+
 /// All kinds in one input: each line is answered as its kind asks.
 #[test]
-fn steps_and_conflicts() {
-    let steps = run(&["step-questions", "5"], b"").stdout;
-    let conflicts = run(&["conflict-questions", "5"], b"").stdout;
-    let others = run(&["questions", "5"], b"").stdout;
+fn every_kind_of_question() {
+    let steps = step_questions::generate(5);
+    let conflicts = conflict_questions::generate(5);
+    let runs = run_questions::generate(5);
+    let permissions = permission_questions::generate(5);
+    let printed = [
+        "step-questions",
+        "questions",
+        "conflict-questions",
+        "run-questions",
+        "permitted-questions",
+    ]
+    .map(|command| run(&[command, "5"], b"").stdout);
+    assert_eq!(printed[0].len(), steps.len() * STEP_QUESTION_BYTES);
+    assert_eq!(printed[2].len(), conflicts.len() * QUESTION_BYTES);
+    let expected = [
+        answers_of(steps.iter().map(|question| question.answer())),
+        answers_of(generate(5).iter().map(|question| question.answer())),
+        answers_of(conflicts.iter().map(|question| question.answer())),
+        answers_of(runs.iter().map(|question| question.answer())),
+        answers_of(permissions.iter().map(|question| question.answer())),
+    ];
+    assert_eq!(expected[3].len(), runs.len() * RUN_ANSWER_BYTES);
     assert_eq!(
-        steps.len(),
-        step_questions::generate(5).len() * STEP_QUESTION_BYTES
+        expected[4].len(),
+        permissions.len() * PERMISSION_ANSWER_BYTES
     );
-    assert_eq!(
-        conflicts.len(),
-        conflict_questions::generate(5).len() * QUESTION_BYTES
-    );
-    let expected_steps: String = step_questions::generate(5)
-        .iter()
-        .map(|question| step_answer_line(&question.answer()))
-        .collect();
-    let expected_conflicts: String = conflict_questions::generate(5)
-        .iter()
-        .map(|question| answer_line(&question.answer()))
-        .collect();
-    let expected_others: String = generate(5)
-        .iter()
-        .map(|question| answer_line(&question.answer()))
-        .collect();
-    let answers = run(&["answers"], &[steps, others, conflicts].concat());
+    let answers = run(&["answers"], &printed.concat());
     assert!(answers.status.success());
-    let expected = expected_steps + &expected_others + &expected_conflicts;
-    assert_eq!(answers.stdout, expected.as_bytes());
+    assert_eq!(answers.stdout, expected.concat().as_bytes());
 }
 
 /// A step whose files are all empty leaves three hashes of nothing, and is
@@ -110,6 +118,53 @@ fn a_step_to_the_letter() {
     let answer = String::from_utf8(answers.stdout).unwrap();
     let start = "00000000 00000001 00000002 00000003 00000004 00000000 00000000 00000005 ";
     assert!(answer.starts_with(start), "{answer}");
+}
+
+/// A run whose second word is refused, since V is closed: PC wraps before it.
+#[test]
+fn a_run_to_the_letter() {
+    let head = "00000009 00000080 0000001f 00000006 00000001 00000002 00000003 00000004 ffffffff \
+                fffffffc 00000000 00000000 00002000 00000200 00000040 \
+                ffffffff 00000000 ffffffff 00000000";
+    let question = format!("{head} 00000003 c08a9000 25207010 c08a9000\n");
+    let answers = run(&["answers"], question.as_bytes());
+    let answer = String::from_utf8(answers.stdout).unwrap();
+    let start = "00000004 00000001 00000001 00000002 00000003 00000004 00000000 00000000 00000006 ";
+    assert!(answer.starts_with(start), "{answer}");
+    assert_eq!(answer.len(), RUN_ANSWER_BYTES);
+    // What it leaves is what its first word leaves, and a step of it.
+    let one = format!("{head} 00000001 c08a9000\n");
+    let step = one
+        .replace(
+            "00000009 00000080 0000001f",
+            "00000007 00000080 0000001f c08a9000",
+        )
+        .replace(" 00000001 c08a9000\n", "\n");
+    let answers = run(&["answers"], (one + &step).as_bytes());
+    let answers = String::from_utf8(answers.stdout).unwrap();
+    let lines: Vec<&str> = answers.lines().collect();
+    assert_eq!(lines[0][..18], *"00000000 00000001 ");
+    assert_eq!(lines[0][18..], answer[18..answer.len() - 1]);
+    assert_eq!(lines[1], format!("00000000 {}", &lines[0][18..]));
+}
+
+#[test]
+fn permissions_to_the_letter() {
+    let zeros = "00000000 00000000 00000000 00000000";
+    let free = "25207010 25207011";
+    let head = |words, order| format!("0000000a 00000080 0000001f {words} {order} {zeros}");
+    let questions = [
+        head("00000000", "00000000") + "\n",
+        head("00000002", "00000002") + &format!(" {free} 00000001 00000000\n"),
+        head("00000002", "00000002") + &format!(" {free} 00000001 00000001\n"),
+        head("00000002", "00000001") + &format!(" {free} 00000000\n"),
+        head("00000002", "00000002") + " 25207010 25207010 00000001 00000000\n",
+        head("00000001", "00000001") + " 25204000 00000000\n",
+    ];
+    let answers = run(&["answers"], questions.concat().as_bytes());
+    let expected = "00000000 00000001\n00000000 00000001\n00000000 00000000\n\
+                    00000000 00000000\n00000000 00000000\n00000003 00000000\n";
+    assert_eq!(String::from_utf8(answers.stdout).unwrap(), expected);
 }
 
 /// Two lines written out by hand.
@@ -154,7 +209,7 @@ fn list_and_listing_words() {
 
 #[test]
 fn wrong_use_is_one_line_and_a_status() {
-    let wrong: [&[&str]; 13] = [
+    let wrong: [&[&str]; 16] = [
         &[],
         &["lst"],
         &["list", "more"],
@@ -165,6 +220,9 @@ fn wrong_use_is_one_line_and_a_status() {
         &["step-questions", "1", "2"],
         &["conflict-questions", "x"],
         &["conflict-question"],
+        &["run-questions", "x"],
+        &["permitted-questions", "1", "2"],
+        &["permission-questions", "1"],
         &["listing-words", "1"],
         &["listing-words", "1", "18446744073709551616"],
         &["answers", "file"],
@@ -193,22 +251,42 @@ fn spoilt_questions_are_named() {
         assert!(line.contains(place), "{line}");
         assert_eq!(line.matches('\n').count(), 1);
     }
-    // A step cut where another question would be whole.
-    let step = run(&["step-questions"], b"").stdout;
-    let output = run(&["answers"], &step[..STEP_QUESTION_BYTES + QUESTION_BYTES]);
+    // Cut where another question would be whole, and before the words.
+    for (command, answer) in [
+        ("step-questions", STEP_ANSWER_BYTES),
+        ("run-questions", RUN_ANSWER_BYTES),
+        ("permitted-questions", PERMISSION_ANSWER_BYTES),
+    ] {
+        let printed = run(&[command], b"").stdout;
+        let first = 1 + printed.iter().position(|&byte| byte == b'\n').unwrap();
+        for more in [QUESTION_BYTES, STEP_QUESTION_BYTES - 1] {
+            let output = run(&["answers"], &printed[..first + more]);
+            if command == "permitted-questions" && more > QUESTION_BYTES {
+                continue;
+            }
+            assert!(!output.status.success());
+            assert_eq!(output.stdout.len(), answer);
+            let line = String::from_utf8(output.stderr).unwrap();
+            assert!(line.contains("question 2:"), "{line}");
+        }
+    }
+    // A list too long to be asked about is refused before it is waited for.
+    let long = "0000000a 00000080 0000001f 00010001 00000000 00000000 00000000 00000000 00000000 ";
+    let output = run(&["answers"], long.as_bytes());
     assert!(!output.status.success());
-    assert_eq!(output.stdout.len(), STEP_ANSWER_BYTES);
     let line = String::from_utf8(output.stderr).unwrap();
-    assert!(line.contains("question 2:"), "{line}");
+    assert!(line.contains("too long"), "{line}");
 }
 
 #[test]
 fn a_reader_that_goes_away_causes_no_panic() {
-    let endless: [&[&str]; 4] = [
+    let endless: [&[&str]; 6] = [
         &["listing-words", "1", "100000000"],
         &["questions"],
         &["step-questions"],
         &["conflict-questions"],
+        &["run-questions"],
+        &["permitted-questions"],
     ];
     for arguments in endless {
         let mut child = start(arguments);

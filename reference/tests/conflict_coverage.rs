@@ -1,8 +1,11 @@
 //! Whether the conflict questions ask what they are meant to ask, and whether
 //! the answers agree with document 01's table written out once more by masks.
 
+mod masks;
+
 use std::collections::HashSet;
 
+use masks::{conflict, masks};
 use reference::conflict_questions::generate;
 use reference::decode::decode;
 use reference::instruction::Form;
@@ -30,22 +33,6 @@ fn pairs(seed: u64) -> Vec<(Setting, u32, u32, [u32; 2])> {
         .collect()
 }
 
-/// What a defined word reads and writes: Z registers in the low 32 bits, P
-/// registers above them, W and ZT0 not at all, since nothing writes them.
-fn masks(word: u32) -> (u64, u64) {
-    let z = |register: u32| 1u64 << (register & 31);
-    let p = |register: u32| 1u64 << (32 + (register & 15));
-    let found = decode(FULL, word).unwrap();
-    match found.form() {
-        Form::Pext1 => (p(8 | word >> 5 & 7), p(word)),
-        Form::Pext2 => (p(8 | word >> 5 & 7), p(word) | p(word + 1)),
-        Form::Dup => (p(word >> 10) | p(word >> 5), p(word)),
-        Form::Luti4c => (z(word >> 5), 15 << (word & 28)),
-        Form::Luti4s => (z(word >> 5), 0x1111 << (word & 19)),
-        Form::Uqrshrnb => (z(word >> 5), z(word)),
-    }
-}
-
 #[test]
 fn answers_agree_with_the_masks() {
     for seed in SEEDS {
@@ -55,11 +42,11 @@ fn answers_agree_with_the_masks() {
                 assert_eq!(number == 1, !setting.is_allowed());
                 continue;
             }
-            let (first_reads, first_writes) = masks(first);
-            let (second_reads, second_writes) = masks(second);
-            let expected = first_writes & (second_reads | second_writes) != 0
-                || second_writes & (first_reads | first_writes) != 0;
-            assert_eq!(value == 1, expected, "{first:08x} {second:08x}");
+            assert_eq!(
+                value == 1,
+                conflict(first, second),
+                "{first:08x} {second:08x}"
+            );
         }
     }
 }

@@ -7,7 +7,9 @@ use reference::refusal::Refusal;
 use reference::run::{Outcome, run};
 use reference::setting::{FULL, Setting};
 use reference::step::step;
-use reference::stretches::{any_machine, any_permitted_order, any_setting, any_stretch};
+use reference::stretches::{
+    any_machine, any_permitted_order, any_setting, any_stretch, rearranged,
+};
 
 const PEXT: u32 = 0x2520_7010;
 
@@ -110,7 +112,7 @@ fn a_permitted_rearrangement_ends_in_the_same_machine() {
         let words = any_stretch(&mut random, setting, length);
         let order = any_permitted_order(&mut random, setting, &words);
         assert_eq!(permitted(setting, &words, &order), Permission::Permitted);
-        let rearranged: Vec<u32> = order.iter().map(|&position| words[position]).collect();
+        let rearranged = rearranged(&words, &order);
         moved += usize::from(rearranged != words);
         let before = any_machine(&mut random);
         let (mut first, mut second) = (before.clone(), before);

@@ -9,7 +9,7 @@ use reference::setting::{FULL, VECTOR_LENGTHS, vl_is_allowed};
 use reference::step_question::StepQuestion;
 use reference::step_questions::generate;
 use reference::text::{STEP_QUESTION_BYTES, read_step_question, step_question_line};
-use reference::values::{FEATURES_ABOVE, LENGTHS_NOT_ALLOWED};
+use reference::values::{FEATURES_ABOVE, LENGTHS_NOT_ALLOWED, WRONG_LENGTHS};
 
 const SEEDS: [u64; 2] = [1, u64::MAX];
 
@@ -27,7 +27,7 @@ type Asked = HashSet<(Form, u32, [u32; 6])>;
 
 fn asked(done: &[(StepQuestion, Instruction)]) -> Asked {
     done.iter()
-        .map(|(question, found)| (found.form(), question.setting.vl, found.fields()))
+        .map(|(question, found)| (found.form(), question.start.setting.vl, found.fields()))
         .collect()
 }
 
@@ -118,10 +118,10 @@ fn counters(done: &[(StepQuestion, Instruction)]) -> Vec<(u32, u32, u16, bool)> 
         .filter(|(_, found)| matches!(found.form(), Form::Pext1 | Form::Pext2))
         .map(|(question, found)| {
             let slot = 32 * found.fields()[2] as usize;
-            let p = question.machine().p;
+            let p = question.start.machine().p;
             let counter = u16::from_le_bytes([p[slot], p[slot + 1]]);
             let above = p[slot + 2..slot + 32].iter().any(|&byte| byte != 0);
-            (question.setting.vl, found.fields()[0], counter, above)
+            (question.start.setting.vl, found.fields()[0], counter, above)
         })
         .collect()
 }
@@ -183,8 +183,8 @@ fn every_edge_of_rounding_and_saturation() {
                         continue;
                     }
                     let start = 256 * fields[2] as usize;
-                    let z = question.machine().z;
-                    let source = &z[start..start + question.setting.vl as usize / 8];
+                    let z = question.start.machine().z;
+                    let source = &z[start..start + question.start.setting.vl as usize / 8];
                     for bytes in source.chunks_exact(size as usize / 4) {
                         let mut element = [0; 16];
                         element[..bytes.len()].copy_from_slice(bytes);
@@ -212,7 +212,7 @@ fn index_sums_around_the_wrap() {
                     .iter()
                     .filter(|(_, i)| i.form() == Form::Dup && i.fields()[..2] == [size, offset])
                     .map(|(question, found)| {
-                        let base = question.w[found.fields()[2] as usize - 12];
+                        let base = question.start.w[found.fields()[2] as usize - 12];
                         u64::from(base) + u64::from(offset)
                     })
                     .collect();
@@ -235,41 +235,32 @@ fn every_feature_number_and_length() {
                 .filter(|q| decode(FULL, q.word).map(|i| i.form()) == Ok(form))
                 .collect();
             for features in (0..32).chain(FEATURES_ABOVE) {
-                assert!(of_form.iter().any(|q| q.setting.features == features
-                    && vl_is_allowed(q.setting.vl)
-                    && q.flags.number() == 7));
+                assert!(of_form.iter().any(|q| q.start.setting.features == features
+                    && vl_is_allowed(q.start.setting.vl)
+                    && q.start.flags.number() == 7));
             }
             for flags in 0..8 {
                 for features in [3, 12, 28, 31] {
-                    assert!(of_form.iter().any(|q| q.setting.features == features
-                        && q.flags.number() == flags
-                        && vl_is_allowed(q.setting.vl)));
+                    assert!(of_form.iter().any(|q| q.start.setting.features == features
+                        && q.start.flags.number() == flags
+                        && vl_is_allowed(q.start.setting.vl)));
                 }
             }
             for pc in [0, 1, u64::MAX - 4, u64::MAX - 3, u64::MAX - 1, u64::MAX] {
-                let asked = of_form.iter().any(|q| q.pc == pc && q.answer()[0] == 0);
+                let asked = of_form
+                    .iter()
+                    .any(|q| q.start.pc == pc && q.answer()[0] == 0);
                 assert!(asked, "{pc:x}");
             }
-            for (z, p, zt) in [
-                (8191, 512, 64),
-                (8193, 512, 64),
-                (0, 512, 64),
-                (8192, 511, 64),
-                (8192, 513, 64),
-                (8192, 0, 64),
-                (8192, 512, 63),
-                (8192, 512, 65),
-                (8192, 512, 0),
-                (0, 0, 0),
-            ] {
+            for (z, p, zt) in WRONG_LENGTHS {
                 assert!(of_form.iter().any(|q| {
-                    let c = q.contents;
+                    let c = q.start.contents;
                     (c.z_length, c.p_length, c.zt_length) == (z, p, zt) && q.answer()[0] == 2
                 }));
             }
         }
         for vl in LENGTHS_NOT_ALLOWED {
-            assert!(questions.iter().any(|q| q.setting.vl == vl));
+            assert!(questions.iter().any(|q| q.start.setting.vl == vl));
         }
     }
 }

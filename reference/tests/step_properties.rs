@@ -66,9 +66,9 @@ fn a_refused_step_changes_nothing() {
     let mut refused = [0; 10];
     for seed in 1..=3 {
         for question in generate(seed) {
-            let before = question.machine();
+            let before = question.start.machine();
             let mut after = before.clone();
-            match step(question.setting, question.word, &mut after) {
+            match step(question.start.setting, question.word, &mut after) {
                 Err(refusal) => {
                     assert_eq!(after, before);
                     refused[refusal.number() as usize] += 1;

@@ -3,13 +3,7 @@
 use super::List;
 use crate::instruction::Form;
 use crate::setting::VECTOR_LENGTHS;
-
-/// Low nibble 0 with and without other bits, all true and all false, every
-/// bit, and document 01's.
-pub const NOTED_COUNTERS: [u16; 15] = [
-    0x0000, 0x8000, 0x0010, 0x8010, 0x7ff0, 0xfff0, 0x0001, 0x8001, 0x000f, 0x8008, 0x7fff, 0xffff,
-    0x0007, 0x0081, 0x8021,
-];
+use crate::values::NOTED_COUNTERS;
 
 /// The counter for elements of 8·2^z bits.
 fn counter(z: u32, count: u32, inverted: bool) -> u16 {
@@ -96,7 +90,7 @@ impl List {
                         vl,
                         Form::Pext2,
                         size,
-                        self.questions.len() as u32 % 2,
+                        self.questions.count() as u32 % 2,
                         value,
                     );
                 }

@@ -4,24 +4,7 @@ use super::{List, word_of};
 use crate::instruction::Form;
 use crate::samples;
 use crate::setting::VECTOR_LENGTHS;
-
-/// Values of PC at the wrap, at halves' ends and off the multiples of 4.
-pub const COUNTERS_OF_NOTE: [u64; 14] = [
-    0,
-    1,
-    2,
-    3,
-    0xffff_fffb,
-    0xffff_fffc,
-    0xffff_ffff,
-    0x7fff_ffff_ffff_fffc,
-    0xffff_ffff_ffff_fff8,
-    0xffff_ffff_ffff_fffb,
-    0xffff_ffff_ffff_fffc,
-    0xffff_ffff_ffff_fffd,
-    0xffff_ffff_ffff_fffe,
-    0xffff_ffff_ffff_ffff,
-];
+use crate::values::PCS_OF_NOTE;
 
 impl List {
     pub(super) fn forms(&mut self) {
@@ -59,7 +42,7 @@ impl List {
         }
         for word in [0x252c_4000, 0x25e0_4000] {
             let mut question = self.open(128, word);
-            question.w[0] = u32::MAX;
+            question.start.w[0] = u32::MAX;
             self.add(question);
         }
         let question = self.open(128, 0x2520_741f);
@@ -115,7 +98,7 @@ impl List {
                     let mut fields = self.fields(Form::Dup);
                     fields[..2].copy_from_slice(&[size, offset]);
                     let mut question = self.open_form(vl, Form::Dup, fields);
-                    question.w[fields[2] as usize - 12] = base;
+                    question.start.w[fields[2] as usize - 12] = base;
                     self.add(question);
                 }
                 self.single_element(size, offset);
@@ -129,7 +112,7 @@ impl List {
         fields[..2].copy_from_slice(&[size, offset]);
         fields[4] = pn;
         let question = self.open_form(128, Form::Dup, fields);
-        let base = u64::from(question.w[fields[2] as usize - 12]);
+        let base = u64::from(question.start.w[fields[2] as usize - 12]);
         let elements = u64::from(128 / size);
         let index = (base + u64::from(offset)) % elements;
         let single = 1u16 << (index * u64::from(size) / 8);
@@ -175,17 +158,17 @@ impl List {
     /// is refused.
     fn every_pc(&mut self) {
         for form in Form::ALL {
-            for pc in COUNTERS_OF_NOTE {
+            for pc in PCS_OF_NOTE {
                 let vl = self.any_length();
                 let fields = self.fields(form);
                 let mut question = self.open(vl, word_of(form, fields));
-                question.pc = pc;
+                question.start.pc = pc;
                 self.add(question);
             }
             let fields = self.fields(form);
             let mut question = self.open_form(128, form, fields);
-            question.pc = 0xffff_ffff_ffff_fffc;
-            question.contents.zt_length = 63;
+            question.start.pc = 0xffff_ffff_ffff_fffc;
+            question.start.contents.zt_length = 63;
             self.add(question);
         }
     }
@@ -197,7 +180,7 @@ impl List {
                 let vl = self.any_length();
                 let word = samples::matching_word(&mut self.random, form);
                 let mut question = self.open(vl, word);
-                question.pc = self.random.next_u64();
+                question.start.pc = self.random.next_u64();
                 self.add(question);
             }
         }
@@ -223,10 +206,10 @@ impl List {
         for word in [pext, lookup] {
             for (p_at, z_at) in places {
                 let mut question = self.open(2048, word);
-                question.contents.p_at = p_at;
-                question.contents.p_value = self.random.next_u32() as u16;
-                question.contents.z_at = z_at;
-                question.contents.z_value = self.random.next_u32();
+                question.start.contents.p_at = p_at;
+                question.start.contents.p_value = self.random.next_u32() as u16;
+                question.start.contents.z_at = z_at;
+                question.start.contents.z_value = self.random.next_u32();
                 self.add(question);
             }
         }

@@ -7,11 +7,7 @@ use crate::machine::Flags;
 use crate::samples;
 use crate::setting::{ALL_FEATURES, VECTOR_LENGTHS};
 use crate::step_question::StepQuestion;
-use crate::values::{FEATURES_ABOVE, LENGTHS_NOT_ALLOWED, PRINTED_WORDS};
-
-/// The feature numbers under which the access flags are tried: with and
-/// without SVE2p1, SME, SME2 and SME2p1.
-const FEATURES_FOR_FLAGS: [u32; 7] = [3, 4, 7, 12, 28, 29, 31];
+use crate::values::{FEATURES_ABOVE, FEATURES_FOR_FLAGS, LENGTHS_NOT_ALLOWED, PRINTED_WORDS};
 
 impl List {
     pub(super) fn refusals(&mut self) {
@@ -34,7 +30,7 @@ impl List {
         for features in (0..=ALL_FEATURES).chain(FEATURES_ABOVE) {
             for form in Form::ALL {
                 let mut question = self.any_open(form);
-                question.setting.features = features;
+                question.start.setting.features = features;
                 self.add(question);
             }
         }
@@ -45,7 +41,7 @@ impl List {
             for _ in 0..3 {
                 let form = self.random.pick(&Form::ALL);
                 let mut question = self.any_open(form);
-                question.setting.vl = vl;
+                question.start.setting.vl = vl;
                 self.add(question);
             }
         }
@@ -56,8 +52,8 @@ impl List {
             for form in Form::ALL {
                 for number in 0..8 {
                     let mut question = self.any_open(form);
-                    question.setting.features = features;
-                    question.flags = flags(number);
+                    question.start.setting.features = features;
+                    question.start.flags = flags(number);
                     self.add(question);
                 }
             }
@@ -69,7 +65,7 @@ impl List {
                 for number in [2, 3] {
                     let word = samples::matching_word(&mut self.random, form);
                     let mut question = self.open(vl, word);
-                    question.flags = flags(number);
+                    question.start.flags = flags(number);
                     self.add(question);
                 }
             }
@@ -84,7 +80,7 @@ impl List {
                 let other = [8192, 512, 64][(file + 1) % 3];
                 for length in [right - 1, right + 1, 0, 2 * right, right / 2, other] {
                     let mut question = self.any_open(form);
-                    set_length(&mut question, file, length);
+                    question.start.set_length(file, length);
                     self.add(question);
                 }
             }
@@ -92,7 +88,7 @@ impl List {
             for lengths in [[8191, 513, 65], [0, 0, 0]] {
                 let mut question = self.any_open(form);
                 for (file, length) in lengths.into_iter().enumerate() {
-                    set_length(&mut question, file, length);
+                    question.start.set_length(file, length);
                 }
                 self.add(question);
             }
@@ -128,19 +124,19 @@ impl List {
             for number in 0..8 {
                 for form in [Form::Pext2, Form::Luti4c, self.random.pick(&Form::ALL)] {
                     let mut question = self.any_open(form);
-                    question.setting.features = 28;
-                    question.flags = flags(number);
+                    question.start.setting.features = 28;
+                    question.start.flags = flags(number);
                     if reasons & 1 != 0 {
                         if self.random.coin() {
-                            question.setting.vl = self.random.pick(&LENGTHS_NOT_ALLOWED);
+                            question.start.setting.vl = self.random.pick(&LENGTHS_NOT_ALLOWED);
                         } else {
-                            question.setting.features = self.random.pick(&FEATURES_ABOVE);
+                            question.start.setting.features = self.random.pick(&FEATURES_ABOVE);
                         }
                     }
                     if reasons & 2 != 0 {
                         let file = self.random.below(3) as usize;
                         let length = self.random.below(64);
-                        set_length(&mut question, file, length);
+                        question.start.set_length(file, length);
                     }
                     if reasons & 4 != 0 {
                         question.word = samples::near_miss(&mut self.random);
@@ -154,14 +150,4 @@ impl List {
 
 fn flags(number: u32) -> Flags {
     Flags::from_number(number).expect("three bits")
-}
-
-/// Files are numbered Z, P, ZT0.
-fn set_length(question: &mut StepQuestion, file: usize, length: u32) {
-    let contents = &mut question.contents;
-    match file {
-        0 => contents.z_length = length,
-        1 => contents.p_length = length,
-        _ => contents.zt_length = length,
-    }
 }
