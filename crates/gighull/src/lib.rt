@@ -6,10 +6,11 @@ ghost use mathlib.Core.Path.{_≡_};
 ghost use Rattle.setting.specs.Numbers.{numberOf};
 ghost use Rattle.machine.specs.Machine.{machine};
 ghost use Rattle.machine.specs.Step.{stepOf};
+ghost use Rattle.machine.specs.Run.{runOf};
 ghost use Rattle.encoding.specs.Decode.{decodeOf};
 ghost use Rattle.encoding.specs.Encode.{encodedAs};
 ghost use Rattle.listing.specs.Buffer.{Wrote, listedOf, outOf};
-ghost use Rattle.console.specs.Lent.{stepAs};
+ghost use Rattle.console.specs.Lent.{stepAs, runAs};
 ghost use Rattle.console.specs.Parts.{vectorOf, predicateOf};
 ghost use Rattle.gighull.specs.Numbers.{settingOf, numberIn};
 ghost use Rattle.gighull.specs.Fields.{readInto, refusedOf, writeOf, writtenAs};
@@ -34,6 +35,24 @@ pub extern "C" fn gighull_step(
     ensures { λ r. ⌜ stepAs r (now (z .exit)) (now (p .exit)) (now (zt .exit)) (now (scalars .exit)) ≡ stepOf (settingOf vl features) word (machine (now (z .entry)) (now (p .entry)) (now (zt .entry)) (now (scalars .entry))) ⌝ }
 {
     let answer = console::step_lent(z, p, zt, scalars, Setting { vl, features }, word);
+    setting::number(answer)
+}
+
+// A stretch of words on the lent machine. How many were done is left beside the record.
+#[no_mangle]
+pub extern "C" fn gighull_run(
+    z: &mut [u8],
+    p: &mut [u8],
+    zt: &mut [u8],
+    scalars: &mut Scalars,
+    vl: u32,
+    features: u32,
+    words: &[u32],
+    done: &mut usize,
+) -> u32
+    ensures { λ r. ⌜ runAs r (now (done .exit)) (now (z .exit)) (now (p .exit)) (now (zt .exit)) (now (scalars .exit)) ≡ runOf (settingOf vl features) (now (words .entry)) (machine (now (z .entry)) (now (p .entry)) (now (zt .entry)) (now (scalars .entry))) ⌝ }
+{
+    let answer = console::run_lent(z, p, zt, scalars, Setting { vl, features }, words, done);
     setting::number(answer)
 }
 
