@@ -1,6 +1,7 @@
 // The C interface: numbers, slices (a pointer, then a length) and the scalar record cross it. include/gighull.h declares it for C.
 // A function answers document 01's number, and leaves its values in what is lent to it.
 mod fields;
+mod replies;
 
 ghost use mathlib.Core.Path.{_≡_};
 ghost use Rattle.setting.specs.Numbers.{numberOf};
@@ -9,10 +10,12 @@ ghost use Rattle.machine.specs.Step.{stepOf};
 ghost use Rattle.machine.specs.Run.{runOf};
 ghost use Rattle.encoding.specs.Decode.{decodeOf};
 ghost use Rattle.encoding.specs.Encode.{encodedAs};
+ghost use Rattle.stretch.specs.Conflict.{conflictOf};
+ghost use Rattle.stretch.specs.Permission.{permittedOf};
 ghost use Rattle.listing.specs.Buffer.{Wrote, listedOf, outOf};
 ghost use Rattle.console.specs.Lent.{stepAs, runAs};
 ghost use Rattle.console.specs.Parts.{vectorOf, predicateOf};
-ghost use Rattle.gighull.specs.Numbers.{settingOf, numberIn};
+ghost use Rattle.gighull.specs.Numbers.{settingOf, numberIn, yesIn};
 ghost use Rattle.gighull.specs.Fields.{readInto, refusedOf, writeOf, writtenAs};
 ghost use Rattle.gighull.specs.Buffers.{fitting, listedAs};
 use encoding::Decoded;
@@ -54,6 +57,38 @@ pub extern "C" fn gighull_run(
 {
     let answer = console::run_lent(z, p, zt, scalars, Setting { vl, features }, words, done);
     setting::number(answer)
+}
+
+// Whether two words conflict: 1 for yes.
+#[no_mangle]
+pub extern "C" fn gighull_conflict(
+    vl: u32,
+    features: u32,
+    first: u32,
+    second: u32,
+    conflict: &mut u32,
+) -> u32
+    ensures { λ r. ⌜ (r ≡ numberIn (conflictOf (settingOf vl features) first second)) × (now (conflict .exit) ≡ yesIn (conflictOf (settingOf vl features) first second)) ⌝ }
+{
+    let reply = stretch::conflict(Setting { vl, features }, first, second);
+    *conflict = replies::yes(reply);
+    replies::number(reply)
+}
+
+// Whether an order of a stretch's positions is a permitted rearrangement of it: 1 for yes.
+#[no_mangle]
+pub extern "C" fn gighull_permitted(
+    vl: u32,
+    features: u32,
+    words: &[u32],
+    order: &[u32],
+    permitted: &mut u32,
+) -> u32
+    ensures { λ r. ⌜ (r ≡ numberIn (permittedOf (settingOf vl features) (now (words .entry)) (now (order .entry)))) × (now (permitted .exit) ≡ yesIn (permittedOf (settingOf vl features) (now (words .entry)) (now (order .entry)))) ⌝ }
+{
+    let reply = stretch::permitted(Setting { vl, features }, words, order);
+    *permitted = replies::yes(reply);
+    replies::number(reply)
 }
 
 // What a word is read as: seven numbers, the form's place in the table first.
