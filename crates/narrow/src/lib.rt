@@ -1,6 +1,6 @@
 // UQRSHRNB on a lent vector file.
 mod elements;
-mod elements32;
+mod one;
 
 ghost use mathlib.Core.Path.{_≡_};
 ghost use lib.ListN.{length};
@@ -24,14 +24,7 @@ pub fn uqrshrnb(z: &mut [u8], vl: u32, size: u32, shift: u32, zn: u32, zd: u32) 
     if !narrow_ready(z.len(), vl, size, shift, zn, zd) {
         return false;
     }
-    elements::narrow_file(
-        z,
-        vl as usize,
-        size as usize,
-        shift as u64,
-        zn as usize,
-        zd as usize,
-    );
+    elements::narrow_file(z, vl as usize, size, shift, zn as usize, zd as usize);
     true
 }
 
