@@ -1,25 +1,145 @@
-//! Links the proved library. Where target/staticlib/libgighull.a is not there
-//! yet, has the kit prove and write it (`rt staticlib gighull`), and says so.
+//! Links the proved library, target/staticlib/libgighull.a of this repository.
+//!
+//! Where the archive is missing, or is older than the crates that it is made
+//! of, the kit proves and writes it (`rt staticlib gighull`, which may take
+//! minutes), and a warning says so. The environment variable
+//! GIGHULL_STATICLIB names a folder with another archive; that one is taken as
+//! it is, whatever its age, and a warning says so too.
 
-use std::path::Path;
+use std::collections::BTreeSet;
+use std::fs;
+use std::path::{Path, PathBuf};
 use std::process::Command;
+use std::time::SystemTime;
+
+const ARCHIVE: &str = "libgighull.a";
+const OTHER_FOLDER: &str = "GIGHULL_STATICLIB";
 
 fn main() {
-    let root = Path::new(env!("CARGO_MANIFEST_DIR")).join("../..");
+    println!("cargo::rerun-if-env-changed={OTHER_FOLDER}");
+    let folder = match std::env::var_os(OTHER_FOLDER) {
+        Some(folder) => other(&PathBuf::from(folder)),
+        None => own(&Path::new(env!("CARGO_MANIFEST_DIR")).join("../..")),
+    };
+    let folder = folder
+        .canonicalize()
+        .unwrap_or_else(|error| panic!("{}: {error}", folder.display()));
+    let archive = folder.join(ARCHIVE);
+    println!("cargo::rerun-if-changed={}", archive.display());
+    println!("cargo::rustc-env=GIGHULL_ARCHIVE={}", archive.display());
+    println!("cargo::rustc-link-search=native={}", folder.display());
+    println!("cargo::rustc-link-lib=static=gighull");
+    not_yet(&archive);
+}
+
+/// An archive that somebody named.
+fn other(folder: &Path) -> PathBuf {
+    let archive = folder.join(ARCHIVE);
+    assert!(
+        archive.exists(),
+        "{OTHER_FOLDER}: there is no {}",
+        archive.display()
+    );
+    println!(
+        "cargo::warning={OTHER_FOLDER}: {} is taken as it is",
+        archive.display()
+    );
+    folder.to_path_buf()
+}
+
+/// This repository's archive, made anew where it must be.
+fn own(root: &Path) -> PathBuf {
     let folder = root.join("target/staticlib");
-    let archive = folder.join("libgighull.a");
-    if !archive.exists() {
-        println!(
-            "cargo:warning=rt staticlib gighull (target/staticlib/libgighull.a was not there)"
-        );
-        let status = Command::new("rt")
-            .args(["staticlib", "gighull"])
-            .current_dir(&root)
-            .status()
-            .expect("the Rattle kit's rt is on the path");
-        assert!(status.success(), "rt staticlib gighull: {status}");
+    let archive = folder.join(ARCHIVE);
+    let sources = sources(root);
+    for source in &sources {
+        println!("cargo::rerun-if-changed={}", source.display());
     }
-    println!("cargo:rerun-if-changed={}", archive.display());
-    println!("cargo:rustc-link-search=native={}", folder.display());
-    println!("cargo:rustc-link-lib=static=gighull");
+    let newest = sources.iter().map(|source| newest(source)).max();
+    let newest = newest.expect("crates.txt is one of the sources");
+    let reason = match changed(&archive) {
+        None => "is not there",
+        Some(made) if made < newest => "is older than its crates",
+        Some(_) => return folder,
+    };
+    println!("cargo::warning=target/staticlib/{ARCHIVE} {reason}: rt staticlib gighull");
+    let status = Command::new("rt")
+        .args(["staticlib", "gighull"])
+        .current_dir(root)
+        .status()
+        .expect("the Rattle kit's rt is on the path");
+    assert!(status.success(), "rt staticlib gighull: {status}");
+    // The kit may leave an archive alone that is still right.
+    fs::File::open(&archive)
+        .and_then(|file| file.set_modified(SystemTime::now()))
+        .unwrap_or_else(|error| panic!("{}: {error}", archive.display()));
+    folder
+}
+
+/// What the archive is made of: the list of crates, and the code, definitions
+/// and proofs of `gighull` and of all that it depends on.
+fn sources(root: &Path) -> Vec<PathBuf> {
+    let list = root.join("crates.txt");
+    let text =
+        fs::read_to_string(&list).unwrap_or_else(|error| panic!("{}: {error}", list.display()));
+    let needs = |name: &str| {
+        let line = text.lines().find_map(|line| {
+            let (start, rest) = line.split_once(':')?;
+            (start == name).then_some(rest)
+        });
+        line.unwrap_or("").split_whitespace()
+    };
+    let mut names = BTreeSet::from(["gighull"]);
+    let mut open = vec!["gighull"];
+    while let Some(name) = open.pop() {
+        open.extend(needs(name).filter(|&need| names.insert(need)));
+    }
+    let mut sources = vec![list];
+    for name in names {
+        for part in ["src", "specs", "proofs"] {
+            let path = root.join("crates").join(name).join(part);
+            // A dependency may be a crate of the kit, which is not here.
+            if path.exists() {
+                sources.push(path);
+            }
+        }
+    }
+    sources
+}
+
+fn changed(path: &Path) -> Option<SystemTime> {
+    fs::metadata(path).and_then(|data| data.modified()).ok()
+}
+
+/// When a file, or any file or folder below a folder, last changed.
+fn newest(path: &Path) -> SystemTime {
+    let mut newest = changed(path).unwrap_or(SystemTime::UNIX_EPOCH);
+    if let Ok(entries) = fs::read_dir(path) {
+        for entry in entries.flatten() {
+            newest = newest.max(self::newest(&entry.path()));
+        }
+    }
+    newest
+}
+
+/// SCAFFOLD, to go when the archive always has them: functions of the header
+/// that are being proved. A cfg for each that the archive has.
+fn not_yet(archive: &Path) {
+    let output = Command::new("nm")
+        .arg("--defined-only")
+        .arg(archive)
+        .output()
+        .expect("nm is on the path");
+    let symbols = String::from_utf8_lossy(&output.stdout).into_owned();
+    for name in ["run", "conflict", "permitted"] {
+        println!("cargo::rustc-check-cfg=cfg(has_{name})");
+        if symbols
+            .lines()
+            .any(|line| line.ends_with(&format!(" T gighull_{name}")))
+        {
+            println!("cargo::rustc-cfg=has_{name}");
+        } else {
+            println!("cargo::warning=gighull_{name} is not in the archive yet");
+        }
+    }
 }

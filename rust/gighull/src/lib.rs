@@ -1,173 +1,134 @@
-//! The proved library, called over its C interface. Nothing checks these
-//! declarations against crates/gighull, so they are few, and the programs over
-//! them compare what they give with other programs.
+//! The proved library as safe Rust.
 //!
-//! A slice crosses as a pointer and a length. No function asks anything of its
-//! arguments: each answers document 01's number for what it refuses.
+//! What is proved is crates/gighull of this repository, which the build script
+//! links as a static library over its C interface (include/gighull.h). This
+//! crate is not proved: its declarations are compared with the header and the
+//! library by a test, and what they give with the reference, by `compare`.
+//!
+//! - [`Machine`]: the three files and the scalars; [`step`](Machine::step),
+//!   [`run`](Machine::run), elements, bits and entries, a register's bytes
+//! - [`Setting`]: a vector length and a feature number
+//! - [`decode`] and [`encode`], between words and [`Instruction`]s
+//! - [`conflict`] and [`permitted`]: which words may change places
+//! - [`lines`]: the listing
+//! - [`Refusal`]: document 01's numbers and words, as an error
+//! - [`ffi`]: the C interface as it stands, for files and lists of any length
+//!
+//! ```
+//! use gighull::{Instruction, Setting, decode, encode};
+//!
+//! let instruction = decode(Setting::FULL, 0x452f3822)?;
+//! assert_eq!(instruction, Instruction::Uqrshrnb { size: 8, shift: 1, zn: 1, zd: 2 });
+//! assert_eq!(encode(Setting::FULL, instruction)?, 0x452f3822);
+//! # Ok::<(), gighull::Refusal>(())
+//! ```
 
-/// The scalar record of crates/machine, field for field.
-#[repr(C)]
-#[derive(Clone, Copy, Debug, PartialEq, Eq)]
-pub struct Scalars {
-    pub w12: u32,
-    pub w13: u32,
-    pub w14: u32,
-    pub w15: u32,
-    pub pc: u64,
-    /// vector access open
-    pub v: bool,
-    /// streaming on and open
-    pub s: bool,
-    /// ZT0 on and open
-    pub t: bool,
+pub mod ffi;
+mod instruction;
+mod machine;
+mod refusal;
+mod setting;
+
+pub use ffi::{Scalars, step};
+pub use instruction::{Form, Instruction};
+pub use machine::{
+    Machine, NoPlace, P_FILE_BYTES, P_REGISTERS, Z_FILE_BYTES, Z_REGISTERS, ZT0_ENTRIES,
+    ZT0_FILE_BYTES,
+};
+pub use refusal::{Answer, Refusal, Stopped};
+pub use setting::{Setting, features};
+
+/// The most words a run takes.
+pub const LONGEST_STRETCH: usize = 256;
+
+/// The most bytes that a line of a listing has, with its newline.
+const LONGEST_LINE: usize = 19;
+
+/// What a word is read as.
+///
+/// ```
+/// use gighull::{Instruction, Refusal, Setting, decode};
+/// let pext = Instruction::Pext1 { size: 8, imm2: 0, counter: 8, pd: 0 };
+/// assert_eq!(decode(Setting::FULL, 0x25207010), Ok(pext));
+/// assert_eq!(decode(Setting::FULL, 0x25204000), Err(Refusal::Undefined));
+/// assert_eq!(decode(Setting::new(128, 2), 0x25207010), Err(Refusal::Setting));
+/// ```
+pub fn decode(setting: Setting, word: u32) -> Answer<Instruction> {
+    let mut numbers = [0; ffi::FIELDS];
+    let number = ffi::decode(setting.vl, setting.features, word, &mut numbers);
+    Refusal::answer(number)?;
+    let instruction = Instruction::from_numbers(numbers);
+    Ok(instruction.expect("the library reads a word as one of six forms"))
 }
 
-mod c {
-    use super::Scalars;
-
-    unsafe extern "C" {
-        #[allow(clippy::too_many_arguments)]
-        pub fn gighull_step(
-            z: *mut u8,
-            z_len: usize,
-            p: *mut u8,
-            p_len: usize,
-            zt: *mut u8,
-            zt_len: usize,
-            scalars: *mut Scalars,
-            vl: u32,
-            features: u32,
-            word: u32,
-        ) -> u32;
-        pub fn gighull_decode(
-            vl: u32,
-            features: u32,
-            word: u32,
-            fields: *mut u32,
-            fields_len: usize,
-        ) -> u32;
-        pub fn gighull_encode(
-            vl: u32,
-            features: u32,
-            fields: *const u32,
-            fields_len: usize,
-            word: *mut u32,
-        ) -> u32;
-        pub fn gighull_vector(
-            file: *const u8,
-            file_len: usize,
-            vl: u32,
-            register: u32,
-            out: *mut u8,
-            out_len: usize,
-        ) -> usize;
-        pub fn gighull_predicate(
-            file: *const u8,
-            file_len: usize,
-            vl: u32,
-            register: u32,
-            out: *mut u8,
-            out_len: usize,
-        ) -> usize;
-        pub fn gighull_lines(
-            input: *const u8,
-            input_len: usize,
-            out: *mut u8,
-            out_len: usize,
-            written: *mut usize,
-        ) -> usize;
-    }
-}
-
-// Each call below is sound: the pointers and lengths are of slices that live
-// through the call and, those that are written, overlap no other, and the
-// library keeps none of them.
-
-/// One word on the lent machine: document 01's number. Where it is not 0,
-/// nothing has changed.
-#[inline]
-pub fn step(
-    z: &mut [u8],
-    p: &mut [u8],
-    zt: &mut [u8],
-    scalars: &mut Scalars,
-    vl: u32,
-    features: u32,
-    word: u32,
-) -> u32 {
-    unsafe {
-        c::gighull_step(
-            z.as_mut_ptr(),
-            z.len(),
-            p.as_mut_ptr(),
-            p.len(),
-            zt.as_mut_ptr(),
-            zt.len(),
-            scalars,
-            vl,
-            features,
-            word,
-        )
-    }
-}
-
-/// What a word is read as: document 01's number. Where it is 0 and `fields` has
-/// seven places, they hold the form's place in the table, from 0, and its
-/// fields; else `fields` stays.
-pub fn decode(vl: u32, features: u32, word: u32, fields: &mut [u32]) -> u32 {
-    unsafe { c::gighull_decode(vl, features, word, fields.as_mut_ptr(), fields.len()) }
-}
-
-/// The word that seven numbers are written as, with document 01's number; 0
-/// where that is not 0.
-pub fn encode(vl: u32, features: u32, fields: &[u32]) -> (u32, u32) {
+/// The word that an instruction is written as.
+///
+/// ```
+/// use gighull::{Instruction, Refusal, Setting, encode};
+/// let dup = |size, offset| Instruction::Dup { size, offset, index: 12, pg: 0, pn: 0, pd: 0 };
+/// assert_eq!(encode(Setting::FULL, dup(64, 1)), Ok(0x25e04000));
+/// assert_eq!(encode(Setting::FULL, dup(64, 2)), Err(Refusal::Range));
+/// assert_eq!(encode(Setting::new(128, 3), dup(64, 1)), Err(Refusal::Undefined));
+/// ```
+pub fn encode(setting: Setting, instruction: Instruction) -> Answer<u32> {
     let mut word = 0;
-    let number =
-        unsafe { c::gighull_encode(vl, features, fields.as_ptr(), fields.len(), &mut word) };
-    (number, word)
+    let numbers = instruction.numbers();
+    let number = ffi::encode(setting.vl, setting.features, &numbers, &mut word);
+    Refusal::answer(number).map(|()| word)
 }
 
-/// Copies a Z register's bytes to the start of `out`, and says how many they
-/// are: 0 where the question is refused or `out` is too short.
-pub fn vector(file: &[u8], vl: u32, register: u32, out: &mut [u8]) -> usize {
-    unsafe {
-        c::gighull_vector(
-            file.as_ptr(),
-            file.len(),
-            vl,
-            register,
-            out.as_mut_ptr(),
-            out.len(),
-        )
-    }
+/// Whether two words conflict: one writes a register that the other reads or
+/// writes.
+///
+/// ```
+/// # if !gighull::ffi::HAS_CONFLICT { return } // SCAFFOLD
+/// use gighull::{Refusal, Setting, conflict};
+/// let narrow = 0x45283801; // Z0 to Z1
+/// assert_eq!(conflict(Setting::FULL, narrow, narrow), Ok(true));
+/// assert_eq!(conflict(Setting::FULL, narrow, 0x45283802), Ok(false)); // Z0 to Z2
+/// assert_eq!(conflict(Setting::FULL, narrow, 0x45283822), Ok(true)); // Z1 to Z2
+/// assert_eq!(conflict(Setting::FULL, narrow, 0), Err(Refusal::Undefined));
+/// ```
+pub fn conflict(setting: Setting, first: u32, second: u32) -> Answer<bool> {
+    let mut yes = 0;
+    let number = ffi::conflict(setting.vl, setting.features, first, second, &mut yes);
+    Refusal::answer(number).map(|()| yes != 0)
 }
 
-/// The same of a P register.
-pub fn predicate(file: &[u8], vl: u32, register: u32, out: &mut [u8]) -> usize {
-    unsafe {
-        c::gighull_predicate(
-            file.as_ptr(),
-            file.len(),
-            vl,
-            register,
-            out.as_mut_ptr(),
-            out.len(),
-        )
-    }
+/// Whether a stretch may be run in an order: `order[i]` is the position in
+/// `words` of the word that comes i-th. An order that does not list each
+/// position exactly once is not permitted.
+///
+/// ```
+/// # if !gighull::ffi::HAS_PERMITTED { return } // SCAFFOLD
+/// use gighull::{Refusal, Setting, permitted};
+/// let words = [0x45283801, 0x45283802, 0x45283823]; // Z0 to Z1, Z0 to Z2, Z1 to Z3
+/// assert_eq!(permitted(Setting::FULL, &words, &[1, 0, 2]), Ok(true));
+/// assert_eq!(permitted(Setting::FULL, &words, &[2, 1, 0]), Ok(false));
+/// assert_eq!(permitted(Setting::FULL, &words, &[0, 1]), Ok(false));
+/// assert_eq!(permitted(Setting::FULL, &[0], &[0]), Err(Refusal::Undefined));
+/// ```
+pub fn permitted(setting: Setting, words: &[u32], order: &[u32]) -> Answer<bool> {
+    let mut yes = 0;
+    let number = ffi::permitted(setting.vl, setting.features, words, order, &mut yes);
+    Refusal::answer(number).map(|()| yes != 0)
 }
 
-/// Lists records to the start of `out`: how many bytes were read, and how long
-/// the text is.
-pub fn lines(input: &[u8], out: &mut [u8]) -> (usize, usize) {
+/// The listing of records of four bytes, low byte first.
+///
+/// ```
+/// let input = [0x10, 0x70, 0x20, 0x25, 0x00, 0x40, 0x20, 0x25, 0x00, 0x38, 0x28, 0x45, 0xff];
+/// assert_eq!(
+///     gighull::lines(&input),
+///     "25207010 PEXT1\n25204000 UNDEFINED\n45283800 UQRSHRNB\nSHORT 1\n"
+/// );
+/// ```
+pub fn lines(input: &[u8]) -> String {
+    // Room for every record and for the bytes left over.
+    let mut out = vec![0; LONGEST_LINE * (input.len() / 4 + 1)];
     let mut written = 0;
-    let read = unsafe {
-        c::gighull_lines(
-            input.as_ptr(),
-            input.len(),
-            out.as_mut_ptr(),
-            out.len(),
-            &mut written,
-        )
-    };
-    (read, written)
+    let read = ffi::lines(input, &mut out, &mut written);
+    assert_eq!(read, input.len(), "there was room for all of it");
+    out.truncate(written);
+    String::from_utf8(out).expect("the library writes ASCII")
 }

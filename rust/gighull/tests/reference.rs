@@ -1,6 +1,7 @@
 //! The proved library, over its C interface, against the reference.
 
 use gighull::Scalars;
+use gighull::ffi;
 use reference::encode::encode;
 use reference::instruction::{Form, Instruction};
 use reference::machine::{Flags, Machine};
@@ -12,6 +13,18 @@ use reference::samples::{
 use reference::setting::{ALL_FEATURES, Setting, VECTOR_LENGTHS};
 use reference::step_questions;
 use reference::stretches::{any_machine, any_setting};
+
+fn raw_encode(vl: u32, features: u32, numbers: &[u32]) -> (u32, u32) {
+    let mut word = 77;
+    let number = ffi::encode(vl, features, numbers, &mut word);
+    (number, word)
+}
+
+fn raw_lines(input: &[u8], out: &mut [u8]) -> (usize, usize) {
+    let mut written = 77;
+    let read = ffi::lines(input, out, &mut written);
+    (read, written)
+}
 
 fn any_flags(random: &mut Random) -> Flags {
     let [v, s, t] = [(); 3].map(|()| random.below(8) != 0);
@@ -33,7 +46,7 @@ fn same_step(setting: Setting, word: u32, machine: &mut Machine) -> u32 {
         s,
         t,
     };
-    let our_number = gighull::step(
+    let our_number = ffi::step(
         &mut ours.z,
         &mut ours.p,
         &mut ours.zt0,
@@ -105,15 +118,15 @@ fn same_reading(setting: Setting, word: u32) -> u32 {
         expected[1..].copy_from_slice(&instruction.fields());
     }
     let mut fields = [77; 7];
-    assert_eq!(gighull::decode(vl, features, word, &mut fields), number);
+    assert_eq!(ffi::decode(vl, features, word, &mut fields), number);
     assert_eq!(fields, expected, "{word:08x} under {setting:?}");
     for length in [0, 1, 6, 8, 9] {
         let mut other = vec![77; length];
-        assert_eq!(gighull::decode(vl, features, word, &mut other), number);
+        assert_eq!(ffi::decode(vl, features, word, &mut other), number);
         assert_eq!(other, vec![77; length]);
     }
     if number == 0 {
-        assert_eq!(gighull::encode(vl, features, &fields), (0, word));
+        assert_eq!(raw_encode(vl, features, &fields), (0, word));
     }
     number
 }
@@ -146,7 +159,7 @@ fn same_writing(setting: Setting, form: Form, fields: [u32; 6]) -> u32 {
     let expected = (number_of(&answer), answer.unwrap_or(0));
     let mut numbers = [form.number() - 1; 7];
     numbers[1..].copy_from_slice(&fields);
-    let found = gighull::encode(setting.vl, setting.features, &numbers);
+    let found = raw_encode(setting.vl, setting.features, &numbers);
     assert_eq!(found, expected, "{instruction:?} under {setting:?}");
     found.0
 }
@@ -184,15 +197,15 @@ fn writings() {
 fn writings_of_no_instruction() {
     for form in [6, 7, 256, 65536, u32::MAX] {
         let numbers = [form, 8, 0, 8, 0, 0, 0];
-        assert_eq!(gighull::encode(128, ALL_FEATURES, &numbers), (9, 0));
-        assert_eq!(gighull::encode(128, 0, &numbers), (9, 0));
-        assert_eq!(gighull::encode(128, 32, &numbers), (1, 0));
-        assert_eq!(gighull::encode(129, ALL_FEATURES, &numbers), (1, 0));
+        assert_eq!(raw_encode(128, ALL_FEATURES, &numbers), (9, 0));
+        assert_eq!(raw_encode(128, 0, &numbers), (9, 0));
+        assert_eq!(raw_encode(128, 32, &numbers), (1, 0));
+        assert_eq!(raw_encode(129, ALL_FEATURES, &numbers), (1, 0));
     }
     for length in [0, 1, 4, 5, 6, 8, 14] {
         let numbers = vec![0; length];
-        assert_eq!(gighull::encode(128, ALL_FEATURES, &numbers), (9, 0));
-        assert_eq!(gighull::encode(0, ALL_FEATURES, &numbers), (1, 0));
+        assert_eq!(raw_encode(128, ALL_FEATURES, &numbers), (9, 0));
+        assert_eq!(raw_encode(0, ALL_FEATURES, &numbers), (1, 0));
     }
 }
 
@@ -227,8 +240,8 @@ fn requests(request: Request, slots: u32, slot: usize, bytes_of: fn(u32) -> usiz
 
 #[test]
 fn register_bytes() {
-    requests(gighull::vector, 32, 256, |vl| vl as usize / 8);
-    requests(gighull::predicate, 16, 32, |vl| vl as usize / 64);
+    requests(ffi::vector, 32, 256, |vl| vl as usize / 8);
+    requests(ffi::predicate, 16, 32, |vl| vl as usize / 64);
 }
 
 #[test]
@@ -244,7 +257,7 @@ fn listings() {
             let mut expected = vec![0xa5; room];
             expected[..text.len()].copy_from_slice(&text);
             let mut out = vec![0xa5; room];
-            assert_eq!(gighull::lines(&input, &mut out), (read, text.len()));
+            assert_eq!(raw_lines(&input, &mut out), (read, text.len()));
             assert_eq!(out, expected);
         }
     }

@@ -1,0 +1,323 @@
+//! The C interface of include/gighull.h as it stands, with slices for the
+//! pointers and lengths.
+//!
+//! Here files and lists may have any length and settings any numbers, and an
+//! answer is a number: the library asks nothing of its arguments and answers
+//! document 01's number for what it refuses. The rest of this crate is over
+//! these functions; tests use them where lengths are to be wrong.
+
+/// W12 to W15, PC and the access flags: `struct gighull_scalars`.
+#[repr(C)]
+#[derive(Clone, Copy, Debug, PartialEq, Eq, Hash)]
+pub struct Scalars {
+    pub w12: u32,
+    pub w13: u32,
+    pub w14: u32,
+    pub w15: u32,
+    pub pc: u64,
+    /// V, vector access open
+    pub v: bool,
+    /// S, streaming on and open
+    pub s: bool,
+    /// T, ZT0 on and open
+    pub t: bool,
+}
+
+/// How many numbers an instruction is read as and written from.
+pub const FIELDS: usize = 7;
+
+/// The archive that this crate is linked with.
+pub const ARCHIVE: &str = env!("GIGHULL_ARCHIVE");
+
+/// The functions declared here, by their C names.
+pub const FUNCTIONS: [&str; 9] = [
+    "gighull_step",
+    "gighull_run",
+    "gighull_decode",
+    "gighull_encode",
+    "gighull_conflict",
+    "gighull_permitted",
+    "gighull_vector",
+    "gighull_predicate",
+    "gighull_lines",
+];
+
+/// SCAFFOLD, to go with `not_yet` of the build script: whether the archive has
+/// the function already. Calling one that it has not panics.
+pub const HAS_RUN: bool = cfg!(has_run);
+pub const HAS_CONFLICT: bool = cfg!(has_conflict);
+pub const HAS_PERMITTED: bool = cfg!(has_permitted);
+
+/// The header's declarations, one for one.
+mod c {
+    use super::Scalars;
+
+    unsafe extern "C" {
+        #[allow(clippy::too_many_arguments)]
+        pub fn gighull_step(
+            z: *mut u8,
+            z_len: usize,
+            p: *mut u8,
+            p_len: usize,
+            zt: *mut u8,
+            zt_len: usize,
+            scalars: *mut Scalars,
+            vl: u32,
+            features: u32,
+            word: u32,
+        ) -> u32;
+        #[cfg(has_run)]
+        #[allow(clippy::too_many_arguments)]
+        pub fn gighull_run(
+            z: *mut u8,
+            z_len: usize,
+            p: *mut u8,
+            p_len: usize,
+            zt: *mut u8,
+            zt_len: usize,
+            scalars: *mut Scalars,
+            vl: u32,
+            features: u32,
+            words: *const u32,
+            words_len: usize,
+            done: *mut usize,
+        ) -> u32;
+        pub fn gighull_decode(
+            vl: u32,
+            features: u32,
+            word: u32,
+            fields: *mut u32,
+            fields_len: usize,
+        ) -> u32;
+        pub fn gighull_encode(
+            vl: u32,
+            features: u32,
+            fields: *const u32,
+            fields_len: usize,
+            word: *mut u32,
+        ) -> u32;
+        #[cfg(has_conflict)]
+        pub fn gighull_conflict(
+            vl: u32,
+            features: u32,
+            first: u32,
+            second: u32,
+            conflict: *mut u32,
+        ) -> u32;
+        #[cfg(has_permitted)]
+        pub fn gighull_permitted(
+            vl: u32,
+            features: u32,
+            words: *const u32,
+            words_len: usize,
+            order: *const u32,
+            order_len: usize,
+            permitted: *mut u32,
+        ) -> u32;
+        pub fn gighull_vector(
+            file: *const u8,
+            file_len: usize,
+            vl: u32,
+            register: u32,
+            out: *mut u8,
+            out_len: usize,
+        ) -> usize;
+        pub fn gighull_predicate(
+            file: *const u8,
+            file_len: usize,
+            vl: u32,
+            register: u32,
+            out: *mut u8,
+            out_len: usize,
+        ) -> usize;
+        pub fn gighull_lines(
+            input: *const u8,
+            input_len: usize,
+            out: *mut u8,
+            out_len: usize,
+            written: *mut usize,
+        ) -> usize;
+    }
+}
+
+/// One word on the lent machine: document 01's number. Where it is not 0,
+/// nothing has changed.
+#[inline]
+pub fn step(
+    z: &mut [u8],
+    p: &mut [u8],
+    zt: &mut [u8],
+    scalars: &mut Scalars,
+    vl: u32,
+    features: u32,
+    word: u32,
+) -> u32 {
+    // SAFETY: the pointers and lengths are of slices that live through the
+    // call and, being lent for writing, overlap nothing else; the library
+    // keeps none of them, and leaves 0 or 1 in the record's flags.
+    unsafe {
+        c::gighull_step(
+            z.as_mut_ptr(),
+            z.len(),
+            p.as_mut_ptr(),
+            p.len(),
+            zt.as_mut_ptr(),
+            zt.len(),
+            scalars,
+            vl,
+            features,
+            word,
+        )
+    }
+}
+
+/// A stretch of words on the lent machine: the number that it stops with, and
+/// in `done` how many words were done.
+#[inline]
+#[allow(clippy::too_many_arguments)]
+pub fn run(
+    z: &mut [u8],
+    p: &mut [u8],
+    zt: &mut [u8],
+    scalars: &mut Scalars,
+    vl: u32,
+    features: u32,
+    words: &[u32],
+    done: &mut usize,
+) -> u32 {
+    #[cfg(has_run)]
+    // SAFETY: as for `step`; the words are only read, and `done` is a number
+    // that is lent for writing.
+    unsafe {
+        c::gighull_run(
+            z.as_mut_ptr(),
+            z.len(),
+            p.as_mut_ptr(),
+            p.len(),
+            zt.as_mut_ptr(),
+            zt.len(),
+            scalars,
+            vl,
+            features,
+            words.as_ptr(),
+            words.len(),
+            done,
+        )
+    }
+    #[cfg(not(has_run))]
+    {
+        let _ = (z, p, zt, scalars, vl, features, words, done);
+        unimplemented!("gighull_run is not in the archive yet")
+    }
+}
+
+/// What a word is read as: document 01's number. Where it is 0 and `fields` has
+/// seven places, they hold the form's place in the table, from 0, and its
+/// fields; else `fields` stays.
+#[inline]
+pub fn decode(vl: u32, features: u32, word: u32, fields: &mut [u32]) -> u32 {
+    // SAFETY: the slice lives through the call, overlaps nothing else and is
+    // not kept.
+    unsafe { c::gighull_decode(vl, features, word, fields.as_mut_ptr(), fields.len()) }
+}
+
+/// The word that seven numbers are written as, in `word`, and document 01's
+/// number; where that is not 0 the word is 0.
+#[inline]
+pub fn encode(vl: u32, features: u32, fields: &[u32], word: &mut u32) -> u32 {
+    // SAFETY: the slice is only read, the word is lent for writing, both live
+    // through the call and neither is kept.
+    unsafe { c::gighull_encode(vl, features, fields.as_ptr(), fields.len(), word) }
+}
+
+/// Whether two words conflict, 1 or 0 in `conflict`, and document 01's number.
+#[inline]
+pub fn conflict(vl: u32, features: u32, first: u32, second: u32, conflict: &mut u32) -> u32 {
+    #[cfg(has_conflict)]
+    // SAFETY: the number is lent for writing through the call and is not kept.
+    unsafe {
+        c::gighull_conflict(vl, features, first, second, conflict)
+    }
+    #[cfg(not(has_conflict))]
+    {
+        let _ = (vl, features, first, second, conflict);
+        unimplemented!("gighull_conflict is not in the archive yet")
+    }
+}
+
+/// Whether a stretch may be run in an order (the position in `words` of the
+/// word that comes i-th, for each i), 1 or 0 in `permitted`, and document 01's
+/// number.
+#[inline]
+pub fn permitted(vl: u32, features: u32, words: &[u32], order: &[u32], permitted: &mut u32) -> u32 {
+    #[cfg(has_permitted)]
+    // SAFETY: both slices are only read, the number is lent for writing, all
+    // live through the call and none is kept.
+    unsafe {
+        c::gighull_permitted(
+            vl,
+            features,
+            words.as_ptr(),
+            words.len(),
+            order.as_ptr(),
+            order.len(),
+            permitted,
+        )
+    }
+    #[cfg(not(has_permitted))]
+    {
+        let _ = (vl, features, words, order, permitted);
+        unimplemented!("gighull_permitted is not in the archive yet")
+    }
+}
+
+/// Copies a Z register's bytes to the start of `out`, and says how many they
+/// are: 0 where the question is refused or `out` is too short.
+#[inline]
+pub fn vector(file: &[u8], vl: u32, register: u32, out: &mut [u8]) -> usize {
+    // SAFETY: the file is only read, `out` is lent for writing and so overlaps
+    // nothing else; both live through the call and neither is kept.
+    unsafe {
+        c::gighull_vector(
+            file.as_ptr(),
+            file.len(),
+            vl,
+            register,
+            out.as_mut_ptr(),
+            out.len(),
+        )
+    }
+}
+
+/// The same of a P register.
+#[inline]
+pub fn predicate(file: &[u8], vl: u32, register: u32, out: &mut [u8]) -> usize {
+    // SAFETY: as for `vector`.
+    unsafe {
+        c::gighull_predicate(
+            file.as_ptr(),
+            file.len(),
+            vl,
+            register,
+            out.as_mut_ptr(),
+            out.len(),
+        )
+    }
+}
+
+/// Lists records to the start of `out`: how many bytes were read, and in
+/// `written` how long the text is.
+#[inline]
+pub fn lines(input: &[u8], out: &mut [u8], written: &mut usize) -> usize {
+    // SAFETY: the input is only read, `out` and `written` are lent for writing
+    // and so overlap nothing else; all live through the call and none is kept.
+    unsafe {
+        c::gighull_lines(
+            input.as_ptr(),
+            input.len(),
+            out.as_mut_ptr(),
+            out.len(),
+            written,
+        )
+    }
+}

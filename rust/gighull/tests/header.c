@@ -1,0 +1,139 @@
+/* Says what include/gighull.h declares and what one call of each function gives,
+ * as lines. tests/header.rs says the same from Rust and compares. */
+#include <inttypes.h>
+#include <stdio.h>
+#include <string.h>
+
+#include "gighull.h"
+
+static uint8_t z[8192], p[512], zt[64];
+static struct gighull_scalars scalars;
+
+/* Bytes that differ from place to place. */
+static void fill(uint8_t *bytes, size_t count, uint32_t seed) {
+    for (size_t i = 0; i < count; i++) {
+        seed = seed * 1664525 + 1013904223;
+        bytes[i] = (uint8_t)(seed >> 24);
+    }
+}
+
+static void fresh(void) {
+    fill(z, sizeof z, 1);
+    fill(p, sizeof p, 2);
+    fill(zt, sizeof zt, 3);
+    memset(&scalars, 0, sizeof scalars);
+    scalars.w12 = 0x11111111;
+    scalars.w13 = 0x22222223;
+    scalars.w14 = 0x33333335;
+    scalars.w15 = 0x44444447;
+    scalars.pc = UINT64_C(0xfffffffffffffff8);
+    scalars.v = scalars.s = scalars.t = true;
+}
+
+static uint64_t hash(const uint8_t *bytes, size_t count) {
+    uint64_t h = UINT64_C(0xcbf29ce484222325);
+    for (size_t i = 0; i < count; i++) {
+        h = (h ^ bytes[i]) * UINT64_C(0x100000001b3);
+    }
+    return h;
+}
+
+static void machine(void) {
+    printf(" z %016" PRIx64 " p %016" PRIx64 " zt %016" PRIx64, hash(z, sizeof z), hash(p, sizeof p),
+           hash(zt, sizeof zt));
+    printf(" w %08" PRIx32 " %08" PRIx32 " %08" PRIx32 " %08" PRIx32, scalars.w12, scalars.w13, scalars.w14,
+           scalars.w15);
+    printf(" pc %016" PRIx64 " flags %d %d %d\n", scalars.pc, scalars.v, scalars.s, scalars.t);
+}
+
+static void step(uint32_t vl, uint32_t features, uint32_t word) {
+    uint32_t answer = gighull_step(z, sizeof z, p, sizeof p, zt, sizeof zt, &scalars, vl, features, word);
+    printf("step %08" PRIx32 " answers %" PRIu32, word, answer);
+    machine();
+}
+
+int main(void) {
+    printf("record size %zu align %zu\n", sizeof(struct gighull_scalars), _Alignof(struct gighull_scalars));
+    printf("offsets %zu %zu %zu %zu %zu %zu %zu %zu\n", offsetof(struct gighull_scalars, w12),
+           offsetof(struct gighull_scalars, w13), offsetof(struct gighull_scalars, w14),
+           offsetof(struct gighull_scalars, w15), offsetof(struct gighull_scalars, pc),
+           offsetof(struct gighull_scalars, v), offsetof(struct gighull_scalars, s),
+           offsetof(struct gighull_scalars, t));
+    printf("field sizes %zu %zu %zu\n", sizeof scalars.w12, sizeof scalars.pc, sizeof scalars.v);
+
+    /* DUP by each of the four index registers, then each flag closed. */
+    fresh();
+    for (uint32_t m = 0; m < 4; m++) {
+        step(2048, 31, UINT32_C(0x25247c23) | m << 16);
+    }
+    for (int flag = 0; flag < 3; flag++) {
+        fresh();
+        scalars.v = flag != 0;
+        scalars.s = flag != 1;
+        scalars.t = flag != 2;
+        step(256, 31, UINT32_C(0x25207010));
+        step(256, 31, UINT32_C(0xc08a9000));
+        step(256, 28, UINT32_C(0x25207010));
+    }
+    fresh();
+    step(129, 31, 0);
+    printf("step without files answers %" PRIu32 "\n",
+           gighull_step(NULL, 0, NULL, 0, NULL, 0, &scalars, 128, 31, UINT32_C(0x25207010)));
+
+    uint32_t fields[7] = {9, 9, 9, 9, 9, 9, 9};
+    uint32_t answer = gighull_decode(128, 31, UINT32_C(0x25e34c65), fields, 7);
+    printf("decode answers %" PRIu32 ":", answer);
+    for (int i = 0; i < 7; i++) {
+        printf(" %" PRIu32, fields[i]);
+    }
+    printf("\ndecode to nowhere answers %" PRIu32 "\n", gighull_decode(128, 31, 0, NULL, 0));
+
+    uint32_t word = 9;
+    answer = gighull_encode(128, 31, fields, 7, &word);
+    printf("encode answers %" PRIu32 ": %08" PRIx32 "\n", answer, word);
+    answer = gighull_encode(128, 31, NULL, 0, &word);
+    printf("encode of nothing answers %" PRIu32 ": %08" PRIx32 "\n", answer, word);
+
+    uint8_t out[300];
+    memset(out, 0xa5, sizeof out);
+    size_t count = gighull_vector(z, sizeof z, 512, 31, out, sizeof out);
+    printf("vector answers %zu: %016" PRIx64 "\n", count, hash(out, sizeof out));
+    memset(out, 0xa5, sizeof out);
+    count = gighull_predicate(p, sizeof p, 512, 15, out, sizeof out);
+    printf("predicate answers %zu: %016" PRIx64 "\n", count, hash(out, sizeof out));
+
+    const uint8_t input[] = {0x10, 0x70, 0x20, 0x25, 0x00, 0x40, 0x20, 0x25, 0x00, 0x38, 0x28, 0x45, 0xff};
+    size_t written = 9;
+    memset(out, 0xa5, sizeof out);
+    count = gighull_lines(input, sizeof input, out, sizeof out, &written);
+    printf("lines answers %zu, %zu: %016" PRIx64 "\n", count, written, hash(out, sizeof out));
+
+#ifdef HAS_RUN
+    const uint32_t words[] = {UINT32_C(0x45283801), UINT32_C(0x25207010), UINT32_C(0xc08a9000), 0};
+    size_t done = 9;
+    fresh();
+    answer = gighull_run(z, sizeof z, p, sizeof p, zt, sizeof zt, &scalars, 256, 31, words, 4, &done);
+    printf("run answers %" PRIu32 " after %zu", answer, done);
+    machine();
+    answer = gighull_run(z, sizeof z, p, sizeof p, zt, sizeof zt, &scalars, 256, 31, NULL, 0, &done);
+    printf("run of nothing answers %" PRIu32 " after %zu", answer, done);
+    machine();
+#endif
+#ifdef HAS_CONFLICT
+    uint32_t yes = 9;
+    answer = gighull_conflict(128, 31, UINT32_C(0x45283801), UINT32_C(0x45283822), &yes);
+    printf("conflict answers %" PRIu32 ": %" PRIu32 "\n", answer, yes);
+    answer = gighull_conflict(128, 31, UINT32_C(0x45283801), UINT32_C(0x45283802), &yes);
+    printf("no conflict answers %" PRIu32 ": %" PRIu32 "\n", answer, yes);
+#endif
+#ifdef HAS_PERMITTED
+    const uint32_t stretch[] = {UINT32_C(0x45283801), UINT32_C(0x45283802), UINT32_C(0x45283823)};
+    const uint32_t good[] = {1, 0, 2}, bad[] = {2, 1, 0};
+    uint32_t may = 9;
+    answer = gighull_permitted(128, 31, stretch, 3, good, 3, &may);
+    printf("permitted answers %" PRIu32 ": %" PRIu32 "\n", answer, may);
+    answer = gighull_permitted(128, 31, stretch, 3, bad, 3, &may);
+    printf("not permitted answers %" PRIu32 ": %" PRIu32 "\n", answer, may);
+#endif
+    return 0;
+}
