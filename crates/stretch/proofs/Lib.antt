@@ -6,6 +6,7 @@ pub mod Permissions
 pub mod Shared
 pub mod Known
 pub mod Clashes
+pub mod Rows
 pub mod Readings
 pub mod Turns
 pub mod Places

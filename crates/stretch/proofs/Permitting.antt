@@ -1,5 +1,5 @@
 -- What a permission answers in each case that the code meets: a refusal, no for another length, or the test over the tables, which is the definitions' test position by position.
-use mathlib.Core.Path.{_≡_, refl, sym, _∙_, ap, ap₂}
+use mathlib.Core.Path.{_≡_, refl, _∙_, ap, ap₂}
 use mathlib.Core.Bool.{Bool, true, false, not, _&&_, _||_}
 use mathlib.Core.List.{List}
 use Prim.Native.Nat.{ℕ, zero, suc, _≤_, _<_}
@@ -16,7 +16,6 @@ use Rattle.stretch.specs.Conflict.{conflict}
 use Rattle.stretch.specs.Permission.{allRead, permittedBy, permittedOf}
 use Rattle.stretch.specs.Bits.{touchOf, clashes}
 use Rattle.stretch.specs.Tables.{touchAt, keepsAt, standsAt}
-use Rattle.stretch.specs.declared.touch.Touch.{Touch}
 use Rattle.stretch.proofs.Clashes.{clash-is-conflict}
 use Rattle.stretch.proofs.Listed.{listed-rearranges}
 

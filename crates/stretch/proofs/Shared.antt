@@ -1,7 +1,6 @@
 -- Whether two numbers share a bit: an OR shares what one of its parts shares, since AND goes through OR digit by digit; two powers of 2 share their bit where they are one.
 use mathlib.Core.Path.{_≡_, refl, sym, _∙_, ap, ap₂}
-use mathlib.Core.Bool.{Bool, true, false, not, _||_}
-use mathlib.Core.Logic.{⊎-elim}
+use mathlib.Core.Bool.{false, not, _||_}
 use Prim.Native.Nat.{ℕ, _+_, _*_, _/_, _%_, _^_, _<_, min, max}
 use native.Mathlib.Nat.{one-mul}
 use native.Mathlib.Omega.{arith}
@@ -9,7 +8,7 @@ use native.Mathlib.Decide.{ℕ-discrete, decLt}
 use lib.Dec.{eqb}
 use lib.Arith.{bin-ind}
 use lib.Pow.{pow-pos, pow-lt}
-use lib.Bits.{bitAnd, bitOr, and-step, or-step, and-comm, and-self, and-zero-r, and-shifted, or-add-and, and-le-l, and-le-r}
+use lib.Bits.{bitAnd, bitOr, and-step, or-step, and-comm, and-self, and-zero-r, and-shifted, or-add-and, and-le-r}
 use borrow.Author.Tests.{eq-eqb, ne-eqb}
 use Rattle.stretch.specs.Bits.{shares}
 

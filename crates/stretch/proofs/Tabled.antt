@@ -1,6 +1,6 @@
--- The tests over the tables are those of the definitions: an order as long as the stretch is a rearrangement exactly when each position is listed, and the tables hold what each word touches and where each position stands.
-use mathlib.Core.Path.{_≡_, refl, sym, _∙_, ap, ap₂}
-use mathlib.Core.Bool.{Bool, true, false, not, _&&_, _||_, and-false}
+-- The code's tests of a pair and of a position over the tables, and the tables of touches filled a word after the other: by the tests' answers, and by what a store leaves.
+use mathlib.Core.Path.{_≡_, refl, sym, _∙_}
+use mathlib.Core.Bool.{Bool, true, false, not, _&&_, and-false}
 use mathlib.Core.List.{List}
 use Prim.Native.Nat.{ℕ, _+_, _≤_, _<_}
 use native.Mathlib.Nat.{not-suc-le-zero}

@@ -1,6 +1,7 @@
 -- `permitted` meets its contract: each return is the case of the definition that its tests say.
 use mathlib.Core.Path.{_≡_, _∙_}
 use mathlib.Core.Bool.{true}
+use native.Mathlib.Omega.{arith}
 use borrow.Author.Needs.{needs}
 use borrow.Author.Tests.{not-false}
 use Rattle.setting.specs.Allowed.{allowedOf}
@@ -24,7 +25,7 @@ returns : tie.Need-returns
 returns c = permission-not-allowed _ _ _ (said-no (c .before .allowed .ensures) (c .if1 .taken))
 
 returns-2 : tie.Need-returns-2
-returns-2 c = permission-too-many _ _ _ (open-setting (c .before)) (c .if2 .taken)
+returns-2 c = permission-too-many _ _ _ (open-setting (c .before)) (omega arith)
 
 touches-requires : tie.Need-touches-requires
 touches-requires c κs = search needs

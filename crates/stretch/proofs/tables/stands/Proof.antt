@@ -30,7 +30,7 @@ element-copy-out-if1 c = omega arith
 returns : tie.Need-returns Inv-loop μ-loop
 returns c =
     let a = c .before .before .before .before .args in
-    sym (one-fails (standsAt (a .writes .now) (a .all .now) (a .place .now) (a .n)) (a .n) (c .before .before .before .loop .j) (omega arith) (position-unlisted (a .writes .now) (a .all .now) (a .place .now) (a .n) (c .before .before .before .loop .j) (c .if1 .taken)))
+    sym (one-fails (standsAt (a .writes .now) (a .all .now) (a .place .now) (a .n)) (a .n) (c .before .before .before .loop .j) (omega arith) (position-unlisted (a .writes .now) (a .all .now) (a .place .now) (a .n) (c .before .before .before .loop .j) (omega arith)))
 
 keeps-requires : tie.Need-keeps-requires Inv-loop μ-loop
 keeps-requires c κs = omega arith

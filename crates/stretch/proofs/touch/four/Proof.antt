@@ -1,6 +1,5 @@
 -- `four` meets its contract: the four bits, of which the last stands alone.
-use lib.Bits.{or-zero-r}
-use Rattle.stretch.specs.Bits.{bitsOf}
+use Rattle.stretch.proofs.Rows.{last-bit, next-bit}
 use borrow.Author.Needs.{needs}
 use Rattle.stretch.proofs.touch.four.Statement.{statement}
 use Rattle.stretch.proofs.touch.four.Tie as tie
@@ -33,8 +32,7 @@ vector-requires-4 : tie.Need-vector-requires-4
 vector-requires-4 c κs = search needs
 
 returns : tie.Need-returns
-unfolding bitsOf
-returns c = rw (c .before .before .before .vector .ensures, c .before .before .vector2 .ensures, c .before .vector3 .ensures, c .vector4 .ensures, or-zero-r)
+returns c = next-bit _ _ (c .before .before .before .vector .ensures) (next-bit _ _ (c .before .before .vector2 .ensures) (next-bit _ _ (c .before .vector3 .ensures) (last-bit _ (c .vector4 .ensures))))
 
 pub four-spec : {M : Type 1} → statement M
 four-spec =

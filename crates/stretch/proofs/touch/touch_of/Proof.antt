@@ -1,9 +1,8 @@
 -- `touch_of` meets its contract: in each arm the instruction is known, its fields are in range, and the bits are those of its row.
 use native.Mathlib.Omega.{arith}
-use lib.Bits.{or-zero-r}
 use Rattle.encoding.proofs.FieldLaws.{dup-ranges, known-range}
-use Rattle.stretch.specs.Bits.{bitOf, bitsOf}
 use Rattle.stretch.proofs.Known.{known-as}
+use Rattle.stretch.proofs.Rows.{last-bit, next-bit, table-bit, row-is}
 use borrow.Author.Needs.{needs}
 use Rattle.stretch.proofs.touch.touch_of.Statement.{statement}
 use Rattle.stretch.proofs.touch.touch_of.Tie as tie
@@ -97,28 +96,22 @@ join-requires-6 : tie.Need-join-requires-6
 join-requires-6 c κs = search needs
 
 returns : tie.Need-returns
-unfolding bitOf bitsOf
-returns c = rw (c .before .before .before .before .instruction .given .1, c .join .ensures, c .before .predicate2 .ensures, c .before .before .predicate .ensures, or-zero-r, or-zero-r)
+returns c = row-is (c .before .before .before .before .instruction .given .1) (c .join .ensures) (last-bit _ (c .before .before .predicate .ensures)) (last-bit _ (c .before .predicate2 .ensures))
 
 returns-2 : tie.Need-returns-2
-unfolding bitOf bitsOf
-returns-2 c = rw (c .before .before .before .before .before .instruction2 .given .1, c .join2 .ensures, c .before .predicate5 .ensures, c .before .before .predicate4 .ensures, c .before .before .before .predicate3 .ensures, or-zero-r, or-zero-r)
+returns-2 c = row-is (c .before .before .before .before .before .instruction2 .given .1) (c .join2 .ensures) (last-bit _ (c .before .before .before .predicate3 .ensures)) (next-bit _ _ (c .before .before .predicate4 .ensures) (last-bit _ (c .before .predicate5 .ensures)))
 
 returns-3 : tie.Need-returns-3
-unfolding bitOf bitsOf
-returns-3 c = rw (c .before .before .before .before .before .before .instruction3 .given .1, c .join3 .ensures, c .before .predicate8 .ensures, c .before .before .scalar .ensures, c .before .before .before .predicate7 .ensures, c .before .before .before .before .predicate6 .ensures, or-zero-r, or-zero-r)
+returns-3 c = row-is (c .before .before .before .before .before .before .instruction3 .given .1) (c .join3 .ensures) (next-bit _ _ (c .before .before .before .before .predicate6 .ensures) (next-bit _ _ (c .before .before .before .predicate7 .ensures) (last-bit _ (c .before .before .scalar .ensures)))) (last-bit _ (c .before .predicate8 .ensures))
 
 returns-4 : tie.Need-returns-4
-unfolding bitOf bitsOf
-returns-4 c = rw (c .before .before .before .before .instruction4 .given .1, c .join4 .ensures, c .before .four .ensures, c .before .before .vector .ensures, or-zero-r, or-zero-r)
+returns-4 c = row-is (c .before .before .before .before .instruction4 .given .1) (c .join4 .ensures) (next-bit _ _ (c .before .before .vector .ensures) table-bit) (c .before .four .ensures)
 
 returns-5 : tie.Need-returns-5
-unfolding bitOf bitsOf
-returns-5 c = rw (c .before .before .before .before .instruction5 .given .1, c .join5 .ensures, c .before .four2 .ensures, c .before .before .vector2 .ensures, or-zero-r, or-zero-r)
+returns-5 c = row-is (c .before .before .before .before .instruction5 .given .1) (c .join5 .ensures) (next-bit _ _ (c .before .before .vector2 .ensures) table-bit) (c .before .four2 .ensures)
 
 returns-6 : tie.Need-returns-6
-unfolding bitOf bitsOf
-returns-6 c = rw (c .before .before .before .before .instruction6 .given .1, c .join6 .ensures, c .before .vector4 .ensures, c .before .before .vector3 .ensures, or-zero-r, or-zero-r)
+returns-6 c = row-is (c .before .before .before .before .instruction6 .given .1) (c .join6 .ensures) (last-bit _ (c .before .before .vector3 .ensures)) (last-bit _ (c .before .vector4 .ensures))
 
 pub touch-of-spec : {M : Type 1} → statement M
 touch-of-spec =
