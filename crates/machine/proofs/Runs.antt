@@ -12,11 +12,12 @@ use borrow.Author.Tests.{le-leb, lt-leb}
 use Rattle.setting.specs.Allowed.{allowedOf}
 use Rattle.setting.specs.declared.Setting.{Setting}
 use Rattle.order.specs.Steps.{Ended, steps}
-use Rattle.machine.specs.Machine.{Machine, machine}
+use Rattle.machine.specs.Machine.{Machine, machine, advanced}
 use Rattle.machine.specs.Step.{Step, sized, refusalOf, execOf, after, stepOf}
 use Rattle.machine.specs.Run.{undone, runOf}
-use Rattle.machine.specs.Done.{Checked}
+use Rattle.machine.specs.Done.{Checked, movedBy}
 use Rattle.machine.specs.declared.Scalars.{Scalars}
+use Rattle.machine.proofs.Steps.{moved-done, moved-not}
 
 -- ---- one word more
 module _ (s : Setting) (words : List ℕ) (i a : ℕ) (m m′ : Machine) (e : Ended Machine)
@@ -48,6 +49,18 @@ module _ (s : Setting) (words : List ℕ) (i a : ℕ) (m m′ : Machine) (e : En
       let t : steps (refusalOf s) (execOf s) (drop (suc i) words) (suc i) (execOf s (getD words i 0) m) ≡ e = rw (r, steps) at opened in
       let u : m′ ≡ execOf s (getD words i 0) m = ap (λ (x : Step). x .left) one ∙ rw r in
       rw (add-one, u) t
+
+-- the same, where PC is moved by the caller
+module _ (s : Setting) (words : List ℕ) (i a : ℕ) (m : Machine) (z p zt : List ℕ) (c : Scalars) (e : Ended Machine)
+    (have : i < length words) (one : _≡_ {A = Step} (record { number = a; left = machine z p zt (movedBy a c) }) (stepOf s (getD words i 0) m))
+    (left : steps (refusalOf s) (execOf s) (drop i words) i m ≡ e) where
+  pub stopped-unmoved : (a ≡ 0 → ⊥) → _≡_ {A = Ended Machine} (record { answer = a; done = i; left = machine z p zt c }) e
+  stopped-unmoved n =
+      ap (λ (x : Scalars). record { answer = a; done = i; left = machine z p zt x }) (sym (moved-not a c n)) ∙ stopped s words i a m (machine z p zt (movedBy a c)) e have one left n
+
+  pub went-on-moved : (d : Scalars) → d ≡ advanced c → a ≡ 0 → steps (refusalOf s) (execOf s) (drop (i + 1) words) (i + 1) (machine z p zt d) ≡ e
+  went-on-moved d q h =
+      ap (λ (x : Scalars). steps (refusalOf s) (execOf s) (drop (i + 1) words) (i + 1) (machine z p zt x)) (q ∙ sym (moved-done a c h)) ∙ went-on s words i a m (machine z p zt (movedBy a c)) e have one left h
 
 pub ended : (s : Setting) (words : List ℕ) (i : ℕ) (m : Machine) (e : Ended Machine) → i ≡ length words → steps (refusalOf s) (execOf s) (drop i words) i m ≡ e
     → _≡_ {A = Ended Machine} (record { answer = 0; done = length words; left = m }) e

@@ -3,6 +3,7 @@ use mathlib.Core.Path.{_≡_, refl, sym, ap, _∙_}
 use mathlib.Core.Bool.{true, false, _&&_}
 use mathlib.Core.List.{List}
 use Prim.Native.Nat.{ℕ, zero, suc}
+use native.Mathlib.Omega.{arith}
 use lib.Dec.{eqb}
 use lib.ListN.{length}
 use borrow.Author.Tests.{eqb-true}
@@ -19,21 +20,20 @@ use Rattle.encoding.proofs.FieldLaws.{and-true}
 use Rattle.encoding.proofs.Round.{read-in-range, refused-three}
 use Rattle.machine.specs.Machine.{Machine, machine, advanced, next}
 use Rattle.machine.specs.Step.{Step, sized, firstFailed, needsOf, refusalOf, execOf, after, stepOf}
-use Rattle.machine.specs.Done.{Ready, doneOf, executed, executedOf}
+use Rattle.machine.specs.Done.{Ready, doneOf, executed, executedOf, movedBy, steppedBy}
 use Rattle.machine.specs.declared.Scalars.{Scalars}
 
 -- ---- an instruction that was read
-module _ (s : Setting) (i : Instruction) (m : Machine) where
-  pub refused-for : (n : ℕ) → n ≡ firstFailed (needsOf s i (m .scalars)) → (n ≡ 0 → ⊥) → _≡_ {A = Step} (record { number = n; left = m }) (executedOf s i m)
+module _ (s : Setting) (i : Instruction) (z p zt : List ℕ) (c : Scalars) where
+  pub refused-for : (n : ℕ) → n ≡ firstFailed (needsOf s i c) → (n ≡ 0 → ⊥) → _≡_ {A = Step} (record { number = n; left = machine z p zt (movedBy n c) }) (executedOf s i (machine z p zt c))
   unfolding executedOf
   refused-for zero e ne = absurd (ne refl)
-  refused-for (suc k) e ne = ap (λ (n : ℕ). executed n (s .vl) i m) e
+  refused-for (suc k) e ne = ap (λ (n : ℕ). executed n (s .vl) i (machine z p zt c)) e
 
-  pub done-for : (z p zt : List ℕ) (c d : Scalars) → 0 ≡ firstFailed (needsOf s i (m .scalars)) → machine z p zt c ≡ doneOf (s .vl) i m → d ≡ advanced c
-      → _≡_ {A = Step} (record { number = 0; left = machine z p zt d }) (executedOf s i m)
+  pub done-for : (z′ p′ : List ℕ) → 0 ≡ firstFailed (needsOf s i c) → machine z′ p′ zt c ≡ doneOf (s .vl) i (machine z p zt c)
+      → _≡_ {A = Step} (record { number = 0; left = machine z′ p′ zt (advanced c) }) (executedOf s i (machine z p zt c))
   unfolding executedOf next
-  done-for z p zt c d e q a =
-      ap (λ (x : Scalars). record { number = 0; left = machine z p zt x }) a ∙ ap (λ (x : Machine). record { number = 0; left = next x }) q ∙ ap (λ (n : ℕ). executed n (s .vl) i m) e
+  done-for z′ p′ e q = ap (λ (x : Machine). record { number = 0; left = next x }) q ∙ ap (λ (n : ℕ). executed n (s .vl) i (machine z p zt c)) e
 
 -- ---- a word
 module _ (s : Setting) (w : ℕ) (m : Machine) where
@@ -47,7 +47,7 @@ module _ (s : Setting) (w : ℕ) (m : Machine) where
     step-not-sized h = rw (a, h)
 
     module _ (h : sized m ≡ true) where
-      pub step-undefined : (d : Decoded) (x : Answer) → decodedAs d ≡ decodeOf s w → d ≡ Refused x → _≡_ {A = Step} (record { number = numberOf x; left = m }) (stepOf s w m)
+      pub step-undefined : (d : Decoded) (x : Answer) → decodedAs d ≡ decodeOf s w → d ≡ Refused x → steppedBy x (m .z) (m .p) (m .zt) (m .scalars) ≡ stepOf s w m
       unfolding stepOf refusalOf
       step-undefined d x e k =
           let r : decodeOf s w ≡ refuse (numberOf x) = sym e ∙ ap decodedAs k in
@@ -81,3 +81,12 @@ module _ (s : Setting) (w : ℕ) (m : Machine) where
             length = and-true (lengthAllowed (s .vl)) (featuresAllowed (s .features)) a .0;
             range = read-in-range s i w (sym e ∙ ap decodedAs k);
           }
+
+-- ---- the scalars after a word
+pub moved-done : (n : ℕ) (c : Scalars) → n ≡ 0 → movedBy n c ≡ advanced c
+moved-done zero c e = refl
+moved-done (suc k) c e = absurd (omega arith)
+
+pub moved-not : (n : ℕ) (c : Scalars) → (n ≡ 0 → ⊥) → movedBy n c ≡ c
+moved-not zero c ne = absurd (ne refl)
+moved-not (suc k) c ne = refl

@@ -1,16 +1,20 @@
 -- What the code goes by: an instruction's new contents put into a machine, PC apart.
 use mathlib.Core.Path.{_≡_}
 use mathlib.Core.Bool.{true}
+use mathlib.Core.List.{List}
 use Prim.Native.Nat.{ℕ, zero, suc}
 use Rattle.setting.specs.Allowed.{lengthAllowed, allowedOf}
 use Rattle.order.specs.Touch.{gets, puts}
 use Rattle.encoding.specs.Instructions.{inRange}
 use Rattle.encoding.specs.declared.Instruction.{Instruction}
-use Rattle.machine.specs.Machine.{Machine, get, put, next}
+use Rattle.machine.specs.Machine.{Machine, machine, get, put, next, advanced}
 use Rattle.machine.specs.Touched.{readsOf, writesOf}
 use Rattle.machine.specs.Gives.{givesOf}
 use Rattle.machine.specs.Step.{Step, sized, firstFailed, needsOf}
+use Rattle.setting.specs.Numbers.{numberOf}
 use Rattle.setting.specs.declared.Setting.{Setting}
+use Rattle.setting.specs.declared.Answer.{Answer}
+use Rattle.machine.specs.declared.Scalars.{Scalars}
 
 unfoldable pub doneOf : ℕ → Instruction → Machine → Machine
 doneOf vl i m = puts (put vl) (writesOf i) (givesOf vl i (gets (get vl) (readsOf i) m)) m
@@ -35,3 +39,11 @@ executedOf s i m = executed (firstFailed (needsOf s i (m .scalars))) (s .vl) i m
 pub record Checked (s : Setting) (m : Machine) : Type 0 where
   pub allowed : allowedOf s ≡ true
   pub files : sized m ≡ true
+
+-- what is left of an answer, the files at exit and the scalars as they were: PC moves where the answer is 0
+abbrev pub movedBy : ℕ → Scalars → Scalars
+movedBy zero c = advanced c
+movedBy (suc k) c = c
+
+abbrev pub steppedBy : Answer → List ℕ → List ℕ → List ℕ → Scalars → Step
+steppedBy a z p zt c = record { number = numberOf a; left = machine z p zt (movedBy (numberOf a) c) }

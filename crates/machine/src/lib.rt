@@ -7,10 +7,11 @@ ghost use mathlib.Core.Bool.{_&&_};
 ghost use lib.Dec.{eqb};
 ghost use Rattle.machine.specs.Machine.{machine, advanced};
 ghost use lib.ListN.{length};
+ghost use Rattle.setting.specs.Numbers.{numberOf};
 ghost use Rattle.order.specs.Steps.{steps};
 ghost use Rattle.machine.specs.Step.{refusalOf, execOf, stepOf, steppedAs};
 ghost use Rattle.machine.specs.Run.{runOf, ranAs};
-ghost use Rattle.machine.specs.Done.{Ready, Checked, executedOf};
+ghost use Rattle.machine.specs.Done.{Ready, Checked, executedOf, movedBy, steppedBy};
 ghost use Rattle.machine.specs.Claims.{Claims};
 use encoding::Decoded;
 use encoding::Instruction;
@@ -56,7 +57,17 @@ fn sized(z: usize, p: usize, zt: usize) -> bool
     (z == 8192) & (p == 512) & (zt == 64)
 }
 
-// An instruction that was read: refused for its access, or done.
+// The scalars after a word: only PC moves, and only where the word is done.
+fn moved(answer: Answer, scalars: Scalars) -> Scalars
+    ensures { λ r. ⌜ r ≡ movedBy (numberOf answer) scalars ⌝ }
+{
+    if setting::number(answer) == 0 {
+        return advance(scalars);
+    }
+    scalars
+}
+
+// An instruction that was read: refused for its access, or done. PC is left to the caller: no record goes through memory.
 fn execute(
     z: &mut [u8],
     p: &mut [u8],
@@ -64,20 +75,17 @@ fn execute(
     scalars: Scalars,
     setting: Setting,
     instruction: Instruction,
-) -> Stepped
+) -> Answer
     requires { ⌜ Ready (length (now z)) (length (now p)) (length (now zt)) (setting .vl) instruction ⌝ }
-    ensures { λ r. ⌜ steppedAs r (now (z .exit)) (now (p .exit)) (now (zt .entry)) ≡ executedOf setting instruction (machine (now (z .entry)) (now (p .entry)) (now (zt .entry)) scalars) ⌝ }
+    ensures { λ r. ⌜ steppedBy r (now (z .exit)) (now (p .exit)) (now (zt .entry)) scalars ≡ executedOf setting instruction (machine (now (z .entry)) (now (p .entry)) (now (zt .entry)) scalars) ⌝ }
 {
     let vl = setting.vl;
     let answer = access::access(setting, scalars, instruction);
     if setting::number(answer) != 0 {
-        return Stepped { answer, scalars };
+        return answer;
     }
     operate::operate(z, p, zt, scalars, vl, instruction);
-    Stepped {
-        answer: Answer::Done,
-        scalars: advance(scalars),
-    }
+    Answer::Done
 }
 
 // One word, where the setting is allowed and each file has its length.
@@ -88,13 +96,13 @@ fn checked_step(
     scalars: Scalars,
     setting: Setting,
     word: u32,
-) -> Stepped
+) -> Answer
     requires { ⌜ Checked setting (machine (now z) (now p) (now zt) scalars) ⌝ }
-    ensures { λ r. ⌜ steppedAs r (now (z .exit)) (now (p .exit)) (now (zt .entry)) ≡ stepOf setting word (machine (now (z .entry)) (now (p .entry)) (now (zt .entry)) scalars) ⌝ }
+    ensures { λ r. ⌜ steppedBy r (now (z .exit)) (now (p .exit)) (now (zt .entry)) scalars ≡ stepOf setting word (machine (now (z .entry)) (now (p .entry)) (now (zt .entry)) scalars) ⌝ }
 {
     match decoder::decode(setting, word) {
         Decoded::Fields(instruction) => execute(z, p, zt, scalars, setting, instruction),
-        Decoded::Refused(answer) => Stepped { answer, scalars },
+        Decoded::Refused(answer) => answer,
     }
 }
 
@@ -121,7 +129,11 @@ pub fn step(
             scalars,
         };
     }
-    checked_step(z, p, zt, scalars, setting, word)
+    let answer = checked_step(z, p, zt, scalars, setting, word);
+    Stepped {
+        answer,
+        scalars: moved(answer, scalars),
+    }
 }
 
 // The words from the first, up to one that is refused.
@@ -139,9 +151,7 @@ fn checked_run(
     let mut held = scalars;
     let mut done: usize = 0;
     while done < words.len() {
-        let r = checked_step(&mut *z, &mut *p, zt, held, setting, words[done]);
-        let answer = r.answer;
-        held = r.scalars;
+        let answer = checked_step(&mut *z, &mut *p, zt, held, setting, words[done]);
         if setting::number(answer) != 0 {
             return Ran {
                 answer,
@@ -149,6 +159,7 @@ fn checked_run(
                 scalars: held,
             };
         }
+        held = advance(held);
         done += 1;
     }
     Ran {

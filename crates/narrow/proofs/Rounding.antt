@@ -24,11 +24,10 @@ lowered t h m x l e = omega arith
 module _ (s k : ℕ) (some : 1 ≤ k) (most : k ≤ s) where
   -- no shift to the left loses a bit; with the rest every bound is one of sums
   pub bounds : ((half s k ≡ 2 ^ (k - 1)) × (((2 ^ s - 1) * 2 ^ k) % 2 ^ (s + s) ≡ (2 ^ s - 1) * 2 ^ k)) × ((2 ^ k ≡ 2 ^ (k - 1) * 2) × ((1 ≤ 2 ^ (k - 1)) × (2 ^ k ≤ 2 ^ s)))
-  bounds =
-      (
-        (shl-exact 1 (k - 1) (s + s) (lit< tt) (omega arith) ∙ one-mul (2 ^ (k - 1)), shl-exact s k (s + s) (ones-lt s) (omega arith)),
-        (double k some, (pow-pos (k - 1), pow-mono most)),
-      )
+  bounds = (
+    (shl-exact 1 (k - 1) (s + s) (lit< tt) (omega arith) ∙ one-mul (2 ^ (k - 1)), shl-exact s k (s + s) (ones-lt s) (omega arith)),
+    (double k some, (pow-pos (k - 1), pow-mono most)),
+  )
 
   sum : top s k + half s k ≡ (2 ^ s - 1) * 2 ^ k + (2 ^ k - 1)
   sum = let b = bounds in omega arith

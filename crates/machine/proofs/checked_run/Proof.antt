@@ -11,7 +11,7 @@ use Rattle.machine.specs.Machine.{machine}
 use Rattle.machine.specs.Step.{refusalOf, execOf}
 use Rattle.machine.specs.Done.{Checked}
 use Rattle.machine.specs.declared.Scalars.{Scalars}
-use Rattle.machine.proofs.Runs.{stopped, went-on, ended, still-checked}
+use Rattle.machine.proofs.Runs.{stopped-unmoved, went-on-moved, ended, still-checked}
 use Rattle.machine.proofs.checked_run.Statement.{statement}
 use Rattle.machine.proofs.checked_run.Tie as tie
 
@@ -45,15 +45,18 @@ number-requires : tie.Need-number-requires Inv-loop μ-loop
 number-requires c κs = search needs
 
 same-length : tie.Need-same-length Inv-loop μ-loop
-same-length c = c .before .before .before .before .before .before .before .checked-step .kept .0 ∙ c .before .before .before .before .before .before .before .before .before .before .before .before .loop .inv .vectors
+same-length c = c .before .before .before .before .before .before .checked-step .kept .0 ∙ c .before .before .before .before .before .before .before .before .before .before .before .loop .inv .vectors
 
 same-length-2 : tie.Need-same-length-2 Inv-loop μ-loop
-same-length-2 c = c .before .before .before .before .before .before .before .checked-step .kept .1 .0 ∙ c .before .before .before .before .before .before .before .before .before .before .before .before .loop .inv .predicates
+same-length-2 c = c .before .before .before .before .before .before .checked-step .kept .1 .0 ∙ c .before .before .before .before .before .before .before .before .before .before .before .loop .inv .predicates
 
 returns : tie.Need-returns Inv-loop μ-loop
-returns c = let l = c .before .before .before .before .before .before .before .before .before .before .before .before .loop in
-    let k = c .before .before .before .before .before .before .before .checked-step in
-    stopped _ _ (l .done) _ _ _ _ (omega arith) (k .ensures) (l .inv .left) (λ h. c .if1 .taken (c .before .number .ensures ∙ h))
+returns c = let l = c .before .before .before .before .before .before .before .before .before .before .before .loop in
+    let k = c .before .before .before .before .before .before .checked-step in
+    stopped-unmoved _ _ (l .done) _ _ _ _ _ _ _ (omega arith) (k .ensures) (l .inv .left) (λ h. c .if1 .taken (c .before .number .ensures ∙ h))
+
+advance-requires : tie.Need-advance-requires Inv-loop μ-loop
+advance-requires c κs = search needs
 
 add-done : tie.Need-add-done Inv-loop μ-loop
 add-done c = omega arith
@@ -71,7 +74,7 @@ loop-again c = let l = c .before .before .before .before .before .before .before
       vectors = y ∙ l .inv .vectors;
       predicates = x ∙ l .inv .predicates;
       checked = still-checked _ _ _ _ _ _ _ _ y x (l .inv .checked);
-      left = went-on _ _ (l .done) _ _ _ _ (omega arith) (k .ensures) (l .inv .left) (sym (c .before .number .ensures) ∙ c .if1 .left);
+      left = went-on-moved _ _ (l .done) _ _ _ _ _ _ _ (omega arith) (k .ensures) (l .inv .left) _ (c .advance .ensures) (sym (c .before .before .number .ensures) ∙ c .before .if1 .left);
     }
 
 same-length-3 : tie.Need-same-length-3 Inv-loop μ-loop
@@ -97,6 +100,7 @@ checked-run-spec =
     same-length
     same-length-2
     returns
+    advance-requires
     add-done
     loop-less
     loop-again

@@ -30,7 +30,8 @@ returns c = let s = c .before .before .before .before .before .before .before .b
     c .before .before .before .before .execute .ensures ∙ step-executes _ _ _ (s .pre .allowed) (s .pre .files) _ _ (c .before .before .before .before .before .before .before .before .before .before .decode .ensures) (c .before .before .before .before .before .before .before .before .instruction .given .1)
 
 returns-2 : tie.Need-returns-2
-returns-2 c = let s = c .before .before .before .before .before .before .before in step-undefined _ _ _ (s .pre .allowed) (s .pre .files) _ _ (c .before .before .before .decode .ensures) (c .before .answer .given .1)
+returns-2 c = let s = c .before .before .before .before .before .before .before in
+    step-undefined _ _ (machine (s .args .z .now) (s .args .p .now) (s .args .zt .now) (s .args .scalars)) (s .pre .allowed) (s .pre .files) _ _ (c .before .before .before .decode .ensures) (c .before .answer .given .1)
 
 pub checked-step-spec : {M : Type 1} → statement M
 checked-step-spec =

@@ -1,4 +1,4 @@
--- `execute` meets its contract: refused with the first need that is not met, or done with PC moved.
+-- `execute` meets its contract: refused with the first need that is not met, or done.
 use mathlib.Core.Path.{sym, _∙_}
 use Rattle.machine.proofs.Steps.{refused-for, done-for}
 use borrow.Author.Needs.{needs}
@@ -12,13 +12,10 @@ number-requires : tie.Need-number-requires
 number-requires c κs = search needs
 
 returns : tie.Need-returns
-returns c = refused-for _ _ _ _ (c .before .before .access .ensures) (λ e. c .if1 .taken (c .before .number .ensures ∙ e))
+returns c = refused-for _ _ _ _ _ _ _ (c .before .before .access .ensures) (λ e. c .if1 .taken (c .before .number .ensures ∙ e))
 
 operate-requires : tie.Need-operate-requires
 operate-requires c κs = search needs
-
-advance-requires : tie.Need-advance-requires
-advance-requires c κs = search needs
 
 same-length : tie.Need-same-length
 same-length c = search needs
@@ -27,8 +24,7 @@ same-length-2 : tie.Need-same-length-2
 same-length-2 c = search needs
 
 returns-2 : tie.Need-returns-2
-returns-2 c =
-    done-for _ _ _ _ _ _ _ _ (sym (c .before .before .before .before .before .before .before .before .if1 .left) ∙ c .before .before .before .before .before .before .before .before .before .number .ensures ∙ c .before .before .before .before .before .before .before .before .before .before .access .ensures) (c .before .before .before .before .before .operate .ensures) (c .advance .ensures)
+returns-2 c = done-for _ _ _ _ _ _ _ _ (sym (c .before .before .before .before .before .before .before .if1 .left) ∙ c .before .before .before .before .before .before .before .before .number .ensures ∙ c .before .before .before .before .before .before .before .before .before .access .ensures) (c .before .before .before .before .operate .ensures)
 
 pub execute-spec : {M : Type 1} → statement M
 execute-spec =
@@ -38,7 +34,6 @@ execute-spec =
     number-requires
     returns
     operate-requires
-    advance-requires
     same-length
     same-length-2
     returns-2)

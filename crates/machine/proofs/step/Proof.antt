@@ -20,6 +20,9 @@ returns-2 c = step-not-sized _ _ _ (said-yes (c .before .before .before .allowed
 checked-step-requires : tie.Need-checked-step-requires
 checked-step-requires c κs = record { allowed = said-yes (c .before .before .before .before .before .before .allowed .ensures) (c .before .before .before .before .before .if1 .left); files = said-yes (c .before .before .before .before .sized .ensures) (c .before .before .before .if2 .left) }
 
+moved-requires : tie.Need-moved-requires
+moved-requires c κs = search needs
+
 same-length : tie.Need-same-length
 same-length c = search needs
 
@@ -30,7 +33,7 @@ same-length-3 : tie.Need-same-length-3
 same-length-3 c = search needs
 
 returns-3 : tie.Need-returns-3
-returns-3 c = search needs
+returns-3 c = rw (c .moved .ensures) (c .before .before .before .before .before .checked-step .ensures)
 
 pub step-spec : {M : Type 1} → statement M
 step-spec =
@@ -41,6 +44,7 @@ step-spec =
     sized-requires
     returns-2
     checked-step-requires
+    moved-requires
     same-length
     same-length-2
     same-length-3

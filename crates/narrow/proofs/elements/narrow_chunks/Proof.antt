@@ -70,24 +70,24 @@ held c =
     let a = c .before .before .before .before .before .before .before in
     let l = c .before .before .before .before .before .loop in
     kept
-        (λ (e : ℕ). narrowed (4 * a .args .w) (a .args .shift) (elem (a .args .w) e (slot 256 (a .args .n * 16) (a .args .zn) (a .args .z .now))))
-        (a .args .w)
-        (a .args .per)
-        (a .pre .whole)
-        (a .args .z .now)
-        (a .args .zn)
-        (a .args .zd)
-        (l .i)
-        (l .z)
-        _
-        (c .copy .last .1 .0)
-        (omega arith)
-        (omega arith)
-        (omega arith)
-        (l .inv .1 .0)
-        refl
-        (l .inv .1 .1)
-        (c .copy .ensures .1)
+    (λ (e : ℕ). narrowed (4 * a .args .w) (a .args .shift) (elem (a .args .w) e (slot 256 (a .args .n * 16) (a .args .zn) (a .args .z .now))))
+    (a .args .w)
+    (a .args .per)
+    (a .pre .whole)
+    (a .args .z .now)
+    (a .args .zn)
+    (a .args .zd)
+    (l .i)
+    (l .z)
+    _
+    (c .copy .last .1 .0)
+    (omega arith)
+    (omega arith)
+    (omega arith)
+    (l .inv .1 .0)
+    refl
+    (l .inv .1 .1)
+    (c .copy .ensures .1)
 
 held-length : (c : tie.After-copy Inv-loop μ-loop) → length (c .copy .last .1 .0) ≡ 16
 held-length c = ap length (held c) ∙ simp (length-take, length-drop) (omega arith)
@@ -126,8 +126,7 @@ loop-less c = search needs
 loop-again : tie.Need-loop-again Inv-loop μ-loop
 loop-again c =
     let a = c .before .before .before .before .before .before .before .before .before .before .before .before .before in
-    let l = c .before .before .before .before .before .before .before .before .before .before .before .loop in
-    (
+    let l = c .before .before .before .before .before .before .before .before .before .before .before .loop in (
       omega arith,
       (
         c .before .z2 .given .1 ∙ l .inv .1 .0,
@@ -155,19 +154,19 @@ returns c =
     let a = c .before .before .before in
     let l = c .before .loop in
     finished
-        (λ (e : ℕ). narrowed (4 * a .args .w) (a .args .shift) (elem (a .args .w) e (slot 256 (a .args .n * 16) (a .args .zn) (a .args .z .now))))
-        (a .args .w)
-        (a .args .per)
-        (a .pre .whole)
-        (a .args .z .now)
-        (a .args .zd)
-        (l .i)
-        (a .args .n)
-        (l .z)
-        (l .inv .0)
-        (c .loop-test .left)
-        (omega arith)
-        (l .inv .1 .1)
+    (λ (e : ℕ). narrowed (4 * a .args .w) (a .args .shift) (elem (a .args .w) e (slot 256 (a .args .n * 16) (a .args .zn) (a .args .z .now))))
+    (a .args .w)
+    (a .args .per)
+    (a .pre .whole)
+    (a .args .z .now)
+    (a .args .zd)
+    (l .i)
+    (a .args .n)
+    (l .z)
+    (l .inv .0)
+    (c .loop-test .left)
+    (omega arith)
+    (l .inv .1 .1)
 
 pub narrow-chunks-spec : {M : Type 1} → statement M
 narrow-chunks-spec =
