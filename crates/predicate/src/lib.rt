@@ -44,6 +44,7 @@ fn put(p: &mut [u8], c: Counter, vl: u32, size: u32, portion: u32, pd: u32)
     counter::extract(c, vl, size, portion, &mut p[d..e]);
 }
 
+// The portions one by one, for any VL.
 fn long_pext(p: &mut [u8], vl: u32, size: u32, first: u32, portions: u32, pn: u32, pd: u32) -> bool
     ensures answer { λ r. ⌜ r ≡ pextReady (length (now (p .entry))) vl size first portions pn pd ⌝ }
     ensures file { λ _. ⌜ now (p .exit) ≡ pextLeaves vl size first portions pn pd (now (p .entry)) ⌝ }
@@ -91,12 +92,16 @@ fn short_pext(p: &mut [u8], size: u32, first: u32, portions: u32, pn: u32, pd: u
 }
 
 // PEXT: portions `first` and on, one or two, to Pd and the next. False, and the file as it was, for operands outside their ranges.
+// `long_pext` is called at two places, which keeps LLVM from taking it in here: VL 128 then saves no registers for it.
 pub fn pext(p: &mut [u8], vl: u32, size: u32, first: u32, portions: u32, pn: u32, pd: u32) -> bool
     ensures answer { λ r. ⌜ r ≡ pextReady (length (now (p .entry))) vl size first portions pn pd ⌝ }
     ensures file { λ _. ⌜ now (p .exit) ≡ pextLeaves vl size first portions pn pd (now (p .entry)) ⌝ }
 {
     if vl == 128 {
         return short_pext(p, size, first, portions, pn, pd);
+    }
+    if vl == 2048 {
+        return long_pext(p, 2048, size, first, portions, pn, pd);
     }
     long_pext(p, vl, size, first, portions, pn, pd)
 }

@@ -19,9 +19,27 @@ same-length-2 : tie.Need-same-length-2
 same-length-2 c = search needs
 
 returns-2 : tie.Need-returns-2
-returns-2 c = search needs
+returns-2 c = rw (c .before .before .before .before .if2 .taken) (c .before .before .long-pext .ensures)
+
+long-pext-requires-2 : tie.Need-long-pext-requires-2
+long-pext-requires-2 c κs = search needs
+
+same-length-3 : tie.Need-same-length-3
+same-length-3 c = search needs
+
+returns-3 : tie.Need-returns-3
+returns-3 c = search needs
 
 pub pext-spec : {M : Type 1} → statement M
 pext-spec =
     tie.close
-    (tie.spec short-pext-requires same-length returns long-pext-requires same-length-2 returns-2)
+    (tie.spec
+    short-pext-requires
+    same-length
+    returns
+    long-pext-requires
+    same-length-2
+    returns-2
+    long-pext-requires-2
+    same-length-3
+    returns-3)
