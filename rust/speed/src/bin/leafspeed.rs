@@ -1,15 +1,15 @@
 //! `leafspeed [ROUNDS]`
 //!
-//! Times one word, repeated, through the proved library's step and through the
-//! baseline's: each form at each element size, at VL 128 and 2048. Both start
-//! from the same machine. A round times both, the one that goes first changing
-//! from round to round, and gives a ratio proved/baseline; the table has the
-//! median and the minimum of the rounds' ratios, each side's least time, and
-//! the ratio of these. (A round in which the baseline alone was interrupted
-//! makes a minimum that says nothing: read the median.)
-//! Afterwards both machines must be equal, byte for byte. Two rows are of words
-//! that are refused, undefined and for a closed flag: what every step costs
-//! beside its operation. All other words must be done.
+//! Times stretches of 256 words through the proved library's run and through
+//! the baseline's, in ns a word: each form at each element size (256 copies of
+//! one word), and mixed stretches of all forms. At VL 128, 512 and 2048. Both
+//! sides start from the same machine, and must end alike in every answer and
+//! byte. A round times both, the one that goes first changing from round to
+//! round, and gives a ratio proved/baseline; the table has the median and the
+//! minimum of the rounds' ratios, each side's least time, and the ratio of
+//! these. (A round in which the baseline alone was interrupted makes a minimum
+//! that says nothing: read the median.) The last rows time single steps: words
+//! that are refused, undefined and for a closed flag, and one that is done.
 //!
 //! DUP's chosen element of Pn is true at each size and both VLs: where it is
 //! false the baseline's loop, as compiled, is passed over, and its time is that
@@ -20,13 +20,15 @@ use std::process::ExitCode;
 use std::time::Instant;
 
 use reference::random::Random;
+use reference::samples::listing_words;
 use speed::fail;
 
-const DEFAULT_ROUNDS: usize = 401;
+const DEFAULT_ROUNDS: usize = 201;
 const FEATURES: u32 = 31;
+const STRETCH: usize = 256;
 /// About what one side takes in a round: short against the time that another
 /// process is given, so that few rounds are interrupted.
-const NANOSECONDS: f64 = 100_000.0;
+const NANOSECONDS: f64 = 200_000.0;
 
 fn main() -> ExitCode {
     let rounds = match std::env::args().nth(1).map(|r| r.parse::<usize>()) {
@@ -34,11 +36,11 @@ fn main() -> ExitCode {
         Some(Ok(rounds)) if rounds > 0 => rounds,
         Some(_) => return fail("leafspeed", "ROUNDS is not a number above 0", 2),
     };
-    println!("{rounds} rounds; ratio proved/baseline of one step; times in ns");
+    println!("{rounds} rounds; ratio proved/baseline; ns a word");
     println!("| form | VL | median | minimum | proved | baseline | least/least | bar |");
     println!("|---|---|---|---|---|---|---|---|");
     let mut over = 0;
-    for vl in [128, 2048] {
+    for vl in [128, 512, 2048] {
         for case in cases() {
             match measure(&case, vl, rounds) {
                 Ok(row) => {
@@ -64,35 +66,57 @@ fn main() -> ExitCode {
     ExitCode::SUCCESS
 }
 
+/// Words that are run as one stretch, or stepped one by one.
 struct Case {
     name: &'static str,
-    word: u32,
-    /// The bar at VL 2048; below it is 1.05. Infinite at both where there is
-    /// none.
-    bar: f64,
-    /// What every step must answer, and whether V is open.
+    words: Vec<u32>,
+    stepped: bool,
+    /// The bars at VL 128 and at VL 2048; none at another VL, nor where it is
+    /// infinite.
+    bars: [f64; 2],
+    /// What every word must answer, and whether V is open.
     answer: u32,
     open: bool,
 }
 
 impl Case {
     fn bar(&self, vl: u32) -> f64 {
-        if vl == 2048 || self.bar.is_infinite() {
-            self.bar
-        } else {
-            1.05
+        match vl {
+            128 => self.bars[0],
+            2048 => self.bars[1],
+            _ => f64::INFINITY,
         }
     }
 }
 
+/// Words that are done, of every form, in no order.
+fn mixed(seed: u64) -> Vec<u32> {
+    let setting = reference::setting::FULL;
+    listing_words(seed, 100_000)
+        .filter(|&word| reference::decode::decode(setting, word).is_ok())
+        .take(STRETCH)
+        .collect()
+}
+
 /// Sources and destinations differ, so that every step finds the same sources.
 fn cases() -> Vec<Case> {
-    let case = |name, word, bar| Case {
+    let stretch = |name, words, bars| Case {
         name,
-        word,
-        bar,
+        words,
+        stepped: false,
+        bars,
         answer: 0,
         open: true,
+    };
+    let case = |name, word: u32, bar: f64| {
+        let first = if bar.is_infinite() { bar } else { 1.05 };
+        stretch(name, vec![word; STRETCH], [first, bar])
+    };
+    let step = |name, word: u32, answer, open| Case {
+        stepped: true,
+        answer,
+        open,
+        ..stretch(name, vec![word], [f64::INFINITY; 2])
     };
     let pext1 = |size: u32| 0x2520_7010 | size << 22 | 1 << 8 | 2 << 5 | 3;
     let pext2 = |size: u32| 0x2520_7410 | size << 22 | 2 << 5 | 3;
@@ -104,15 +128,6 @@ fn cases() -> Vec<Case> {
         0x4520_3800 | (tsz >> 2) << 22 | (tsz & 3) << 19 | imm3 << 16 | 7 << 5 | 9
     };
     vec![
-        Case {
-            answer: 3,
-            ..case("undefined", 0x2520_4000, 1.05)
-        },
-        Case {
-            answer: 4,
-            open: false,
-            ..case("V closed", narrow(0b001, 3), 1.05)
-        },
         case("PEXT1 B", pext1(0), 0.4),
         case("PEXT1 H", pext1(1), 0.4),
         case("PEXT1 S", pext1(2), 0.4),
@@ -132,6 +147,12 @@ fn cases() -> Vec<Case> {
         case("UQRSHRNB B", narrow(0b001, 3), 0.7),
         case("UQRSHRNB H", narrow(0b010, 5), 0.7),
         case("UQRSHRNB S", narrow(0b100, 7), 0.7),
+        stretch("mixed, 1", mixed(1), [1.0, 0.6]),
+        stretch("mixed, 2", mixed(2), [1.0, 0.6]),
+        stretch("mixed, 3", mixed(3), [1.0, 0.6]),
+        step("step: undefined", 0x2520_4000, 3, true),
+        step("step: V closed", narrow(0b001, 3), 4, false),
+        step("step: UQRSHRNB B", narrow(0b001, 3), 0, true),
     ]
 }
 
@@ -197,85 +218,99 @@ fn machines() -> (Machine<gighull::Scalars>, Machine<baseline::Scalars>) {
     (proved, plain)
 }
 
-/// One step, in a form that the loop below calls without knowing it.
-type Step<Scalars> = fn(&mut Machine<Scalars>, u32, u32, u32) -> u32;
+/// What a stretch or a step answered, in a form that the loop below calls
+/// without knowing it: the number, and the words done.
+type Run<Scalars> = fn(&mut Machine<Scalars>, u32, &[u32]) -> (u32, usize);
 
-fn proved_step(machine: &mut Machine<gighull::Scalars>, vl: u32, features: u32, word: u32) -> u32 {
+fn proved_run(machine: &mut Machine<gighull::Scalars>, vl: u32, words: &[u32]) -> (u32, usize) {
     let Machine { z, p, zt, scalars } = machine;
-    gighull::step(z, p, zt, scalars, vl, features, word)
+    let mut done = 0;
+    let number = gighull::ffi::run(z, p, zt, scalars, vl, FEATURES, words, &mut done);
+    (number, done)
 }
 
-fn baseline_step(
-    machine: &mut Machine<baseline::Scalars>,
-    vl: u32,
-    features: u32,
-    word: u32,
-) -> u32 {
+fn proved_step(machine: &mut Machine<gighull::Scalars>, vl: u32, words: &[u32]) -> (u32, usize) {
+    let Machine { z, p, zt, scalars } = machine;
+    let number = gighull::step(z, p, zt, scalars, vl, FEATURES, words[0]);
+    (number, usize::from(number == 0))
+}
+
+fn plain_run(machine: &mut Machine<baseline::Scalars>, vl: u32, words: &[u32]) -> (u32, usize) {
     let Machine { z, p, zt, scalars } = machine;
     let mut files = baseline::Files { z, p, zt0: zt };
-    baseline::step(
-        baseline::Setting { vl, features },
-        word,
-        &mut files,
-        scalars,
-    )
+    let features = FEATURES;
+    let outcome = baseline::run(baseline::Setting { vl, features }, words, &mut files, scalars);
+    (outcome.number, outcome.done)
 }
 
-/// Nanoseconds a step. Adds the answers to `answers`.
-fn time<Scalars>(
-    step: Step<Scalars>,
-    machine: &mut Machine<Scalars>,
-    vl: u32,
-    word: u32,
-    count: u32,
-    answers: &mut u32,
-) -> f64 {
-    let step = black_box(step);
-    let (vl, features, word) = black_box((vl, FEATURES, word));
-    let begin = Instant::now();
-    for _ in 0..count {
-        *answers += step(machine, vl, features, word);
+fn plain_step(machine: &mut Machine<baseline::Scalars>, vl: u32, words: &[u32]) -> (u32, usize) {
+    let Machine { z, p, zt, scalars } = machine;
+    let mut files = baseline::Files { z, p, zt0: zt };
+    let features = FEATURES;
+    let setting = baseline::Setting { vl, features };
+    let number = baseline::step(setting, words[0], &mut files, scalars);
+    (number, usize::from(number == 0))
+}
+
+/// One side: how it runs, its machine, and how often it answered otherwise.
+struct Side<Scalars> {
+    run: Run<Scalars>,
+    machine: Machine<Scalars>,
+    wrong: u32,
+}
+
+impl<Scalars> Side<Scalars> {
+    /// Nanoseconds a word.
+    fn time(&mut self, case: &Case, vl: u32, count: u32) -> f64 {
+        let run = black_box(self.run);
+        let (vl, words) = black_box((vl, &case.words[..]));
+        let expected = (case.answer, if case.answer == 0 { words.len() } else { 0 });
+        let begin = Instant::now();
+        for _ in 0..count {
+            let found = run(&mut self.machine, vl, words);
+            self.wrong += u32::from(found != expected);
+        }
+        begin.elapsed().as_secs_f64() * 1e9 / f64::from(count) / words.len() as f64
     }
-    begin.elapsed().as_secs_f64() * 1e9 / f64::from(count)
 }
 
 fn measure(case: &Case, vl: u32, rounds: usize) -> Result<Row, String> {
-    let (mut proved, mut plain) = machines();
-    proved.scalars.v = case.open;
-    plain.scalars.v = case.open;
-    let (mut done, mut answers, mut plain_answers) = (0, 0, 0);
-    let mut time_proved = |count: u32| {
-        done += count;
-        time(proved_step, &mut proved, vl, case.word, count, &mut answers)
+    let (proved, plain) = machines();
+    let mut proved = Side {
+        run: if case.stepped { proved_step } else { proved_run },
+        machine: proved,
+        wrong: 0,
     };
-    let mut time_plain = |count: u32| {
-        let answers = &mut plain_answers;
-        time(baseline_step, &mut plain, vl, case.word, count, answers)
+    let mut plain = Side {
+        run: if case.stepped { plain_step } else { plain_run },
+        machine: plain,
+        wrong: 0,
     };
-    time_proved(1000);
-    let count = (NANOSECONDS / time_plain(1000)).clamp(100.0, 1e6) as u32;
+    proved.machine.scalars.v = case.open;
+    plain.machine.scalars.v = case.open;
+    let warm = 8;
+    proved.time(case, vl, warm);
+    let each = plain.time(case, vl, warm) * case.words.len() as f64;
+    let count = (NANOSECONDS / each).clamp(1.0, 1e6) as u32;
     let (mut ratios, mut least_proved, mut least_plain) = (Vec::new(), f64::MAX, f64::MAX);
     for round in 0..rounds {
         let (a, b) = if round % 2 == 0 {
-            let a = time_proved(count);
-            (a, time_plain(count))
+            let a = proved.time(case, vl, count);
+            (a, plain.time(case, vl, count))
         } else {
-            let b = time_plain(count);
-            (time_proved(count), b)
+            let b = plain.time(case, vl, count);
+            (proved.time(case, vl, count), b)
         };
         ratios.push(a / b);
         least_proved = least_proved.min(a);
         least_plain = least_plain.min(b);
     }
-    let expected = done * case.answer;
-    if answers != expected || plain_answers != expected {
-        return Err(format!(
-            "{}: another answer than {}",
-            case.name, case.answer
-        ));
+    if proved.wrong + plain.wrong > 0 {
+        return Err(format!("{} at VL {vl}: another answer", case.name));
     }
-    let (s, t) = (proved.scalars, plain.scalars);
-    let same = (proved.z, proved.p, proved.zt) == (plain.z, plain.p, plain.zt)
+    let (m, n) = (proved.machine, plain.machine);
+    let (s, t) = (m.scalars, n.scalars);
+    let same = (m.z, m.p, m.zt) == (n.z, n.p, n.zt)
         && ([s.w12, s.w13, s.w14, s.w15], s.pc, s.v, s.s, s.t) == (t.w, t.pc, t.v, t.s, t.t);
     if !same {
         return Err(format!("{} at VL {vl}: the machines differ", case.name));
