@@ -17,6 +17,27 @@ pub fn decode(setting: Setting, word: u32) -> Decoded
     if !setting::allowed(setting) {
         return Decoded::Refused(Answer::NotAllowed);
     }
+    let row = layouts::row_of(features, word);
+    match row {
+        0 => Decoded::Fields(fields::pext1(word)),
+        1 => Decoded::Fields(fields::pext2(word)),
+        2 => Decoded::Fields(fields::dup(word)),
+        3 => Decoded::Fields(fields::luti4c(word)),
+        4 => Decoded::Fields(fields::luti4s(word)),
+        5 => Decoded::Fields(fields::uqrshrnb(word)),
+        _ => Decoded::Refused(Answer::Undefined),
+    }
+}
+
+// A twin of `decode` for speed: where the same words come again, as in a run, each branch is foreseen; and with one caller
+// the compiler puts it into the run's loop.
+pub fn decode_by_turns(setting: Setting, word: u32) -> Decoded
+    ensures { λ r. ⌜ decodedAs r ≡ decodeOf setting word ⌝ }
+{
+    let features = setting.features;
+    if !setting::allowed(setting) {
+        return Decoded::Refused(Answer::NotAllowed);
+    }
     let row = layouts::row_by_turns(features, word);
     match row {
         0 => Decoded::Fields(fields::pext1(word)),

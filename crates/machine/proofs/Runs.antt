@@ -1,7 +1,7 @@
 -- What a run is in each case that the code meets: what is left of the stretch, stepped from where the loop stands, ends as the whole does.
 use mathlib.Core.Path.{_≡_, refl, sym, ap, _∙_}
 use mathlib.Core.Bool.{true, false}
-use mathlib.Core.List.{List, _∷_}
+use mathlib.Core.List.{List, [], _∷_}
 use Prim.Native.Nat.{ℕ, zero, suc, _+_, _<_, _≤_}
 use native.Mathlib.Numerals.{add-one}
 use native.Mathlib.Omega.{arith}
@@ -90,3 +90,15 @@ module _ (s : Setting) (words : List ℕ) (m : Machine) where
 -- ---- the files keep their lengths
 pub still-checked : (s : Setting) (z p zt z′ p′ : List ℕ) (c c′ : Scalars) → length z′ ≡ length z → length p′ ≡ length p → Checked s (machine z p zt c) → Checked s (machine z′ p′ zt c′)
 still-checked s z p zt z′ p′ c c′ ez ep k = record { allowed = k .allowed; files = rw (ez, ep) (k .files) }
+
+-- ---- a stretch of one word is a step
+abbrev pub firstStep : Ended Machine → Step
+firstStep e = record { number = e .answer; left = e .left }
+
+pub one-word : (s : Setting) (w : ℕ) (m : Machine) → firstStep (steps (refusalOf s) (execOf s) (w ∷ []) 0 m) ≡ stepOf s w m
+unfolding steps stepOf
+one-word s w m = go (refusalOf s w m) refl
+  where
+    go : (k : ℕ) → refusalOf s w m ≡ k → firstStep (steps (refusalOf s) (execOf s) (w ∷ []) 0 m) ≡ stepOf s w m
+    go zero e = rw (e, steps)
+    go (suc k) e = rw (e, steps)

@@ -57,16 +57,6 @@ fn sized(z: usize, p: usize, zt: usize) -> bool
     (z == 8192) & (p == 512) & (zt == 64)
 }
 
-// The scalars after a word: only PC moves, and only where the word is done.
-fn moved(answer: Answer, scalars: Scalars) -> Scalars
-    ensures { λ r. ⌜ r ≡ movedBy (numberOf answer) scalars ⌝ }
-{
-    if setting::number(answer) == 0 {
-        return advance(scalars);
-    }
-    scalars
-}
-
 // An instruction that was read: refused for its access, or done. PC is left to the caller: no record goes through memory.
 fn execute(
     z: &mut [u8],
@@ -100,39 +90,9 @@ fn checked_step(
     requires { ⌜ Checked setting (machine (now z) (now p) (now zt) scalars) ⌝ }
     ensures { λ r. ⌜ steppedBy r (now (z .exit)) (now (p .exit)) (now (zt .entry)) scalars ≡ stepOf setting word (machine (now (z .entry)) (now (p .entry)) (now (zt .entry)) scalars) ⌝ }
 {
-    match decoder::decode(setting, word) {
+    match decoder::decode_by_turns(setting, word) {
         Decoded::Fields(instruction) => execute(z, p, zt, scalars, setting, instruction),
         Decoded::Refused(answer) => answer,
-    }
-}
-
-// One word. ZT0 is lent for words to come that write it; today it stays.
-pub fn step(
-    z: &mut [u8],
-    p: &mut [u8],
-    zt: &mut [u8],
-    scalars: Scalars,
-    setting: Setting,
-    word: u32,
-) -> Stepped
-    ensures { λ r. ⌜ steppedAs r (now (z .exit)) (now (p .exit)) (now (zt .exit)) ≡ stepOf setting word (machine (now (z .entry)) (now (p .entry)) (now (zt .entry)) scalars) ⌝ }
-{
-    if !setting::allowed(setting) {
-        return Stepped {
-            answer: Answer::NotAllowed,
-            scalars,
-        };
-    }
-    if !sized(z.len(), p.len(), zt.len()) {
-        return Stepped {
-            answer: Answer::WrongLength,
-            scalars,
-        };
-    }
-    let answer = checked_step(z, p, zt, scalars, setting, word);
-    Stepped {
-        answer,
-        scalars: moved(answer, scalars),
     }
 }
 
@@ -166,6 +126,40 @@ fn checked_run(
         answer: Answer::Done,
         done: words.len(),
         scalars: held,
+    }
+}
+
+// One word: a stretch of one, so that `checked_step` has a single caller and goes into its loop. ZT0 is lent for words to
+// come that write it; today it stays.
+pub fn step(
+    z: &mut [u8],
+    p: &mut [u8],
+    zt: &mut [u8],
+    scalars: Scalars,
+    setting: Setting,
+    word: u32,
+) -> Stepped
+    ensures { λ r. ⌜ steppedAs r (now (z .exit)) (now (p .exit)) (now (zt .exit)) ≡ stepOf setting word (machine (now (z .entry)) (now (p .entry)) (now (zt .entry)) scalars) ⌝ }
+{
+    if !setting::allowed(setting) {
+        return Stepped {
+            answer: Answer::NotAllowed,
+            scalars,
+        };
+    }
+    if !sized(z.len(), p.len(), zt.len()) {
+        return Stepped {
+            answer: Answer::WrongLength,
+            scalars,
+        };
+    }
+    let one = [word];
+    let r = checked_run(z, p, zt, scalars, setting, &one);
+    let answer = r.answer;
+    let left = r.scalars;
+    Stepped {
+        answer,
+        scalars: left,
     }
 }
 

@@ -1,6 +1,8 @@
--- `step` meets its contract: 1 and 2 are tested, and the rest is `checked_step`.
+-- `step` meets its contract: 1 and 2 are tested, and the rest is a run of one word.
+use mathlib.Core.Path.{ap, _∙_}
 use Rattle.element.proofs.Tests.{said-no, said-yes}
 use Rattle.machine.proofs.Steps.{step-not-allowed, step-not-sized}
+use Rattle.machine.proofs.Runs.{firstStep, one-word}
 use borrow.Author.Needs.{needs}
 use Rattle.machine.proofs.step.Statement.{statement}
 use Rattle.machine.proofs.step.Tie as tie
@@ -17,11 +19,11 @@ sized-requires c κs = search needs
 returns-2 : tie.Need-returns-2
 returns-2 c = step-not-sized _ _ _ (said-yes (c .before .before .before .allowed .ensures) (c .before .before .if1 .left)) (said-no (c .before .sized .ensures) (c .if2 .taken))
 
-checked-step-requires : tie.Need-checked-step-requires
-checked-step-requires c κs = record { allowed = said-yes (c .before .before .before .before .before .before .allowed .ensures) (c .before .before .before .before .before .if1 .left); files = said-yes (c .before .before .before .before .sized .ensures) (c .before .before .before .if2 .left) }
+slice-aggregate-checked-run : tie.Need-slice-aggregate-checked-run
+slice-aggregate-checked-run c = search needs
 
-moved-requires : tie.Need-moved-requires
-moved-requires c κs = search needs
+checked-run-requires : tie.Need-checked-run-requires
+checked-run-requires c κs = record { allowed = said-yes (c .before .before .before .before .before .before .before .allowed .ensures) (c .before .before .before .before .before .before .if1 .left); files = said-yes (c .before .before .before .before .before .sized .ensures) (c .before .before .before .before .if2 .left) }
 
 same-length : tie.Need-same-length
 same-length c = search needs
@@ -33,7 +35,7 @@ same-length-3 : tie.Need-same-length-3
 same-length-3 c = search needs
 
 returns-3 : tie.Need-returns-3
-returns-3 c = rw (c .moved .ensures) (c .before .before .before .before .before .checked-step .ensures)
+returns-3 c = ap firstStep (c .before .before .before .before .before .checked-run .ensures) ∙ one-word _ _ _
 
 pub step-spec : {M : Type 1} → statement M
 step-spec =
@@ -43,8 +45,8 @@ step-spec =
     returns
     sized-requires
     returns-2
-    checked-step-requires
-    moved-requires
+    slice-aggregate-checked-run
+    checked-run-requires
     same-length
     same-length-2
     same-length-3
