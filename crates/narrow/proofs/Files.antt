@@ -1,53 +1,48 @@
--- A destination's part come back is its slot set as the definition says: by the lengths of what was made.
-use mathlib.Core.Path.{_≡_, sym, _∙_}
-use mathlib.Core.Logic.{⊎-elim, _⊎_, inl, inr}
+-- The chunks of a register are its bytes, and their elements its elements: once over the width.
+use mathlib.Core.Path.{_≡_, refl, sym, ap, _∙_}
+use mathlib.Core.Bool.{true}
 use mathlib.Core.List.{List}
-use Prim.Native.Nat.{ℕ, _+_, _-_, _*_, _/_, _%_, _≤_}
+use Prim.Native.Nat.{ℕ, _*_, _/_, _%_, _≤_}
+use native.Mathlib.Nat.{mul-assoc, div-eq-of-eq-mul-left}
 use native.Mathlib.Omega.{arith}
-use lib.ListN.{length}
-use borrow.Rule.Slice.PartMut.{putMid}
 use Rattle.element.specs.Contents.{elem, fill}
-use Rattle.element.specs.Slots.{slot}
-use Rattle.element.proofs.Filling.{fill-length}
-use Rattle.part.proofs.Slots.{put-back}
-use Rattle.narrow.specs.Narrow.{narrowed, uqrshrnbOf, uqrshrnbFile}
+use Rattle.element.specs.Size.{pick}
+use Rattle.element.specs.Slots.{slot, setSlot}
 use Rattle.part.specs.Parts.{Width}
-use Rattle.narrow.specs.Needed.{Result, EachReady, NarrowReady}
+use Rattle.narrow.specs.Narrow.{narrowed, uqrshrnbOf, uqrshrnbFile}
+use Rattle.narrow.specs.Needed.{isResult, ChunksReady, NarrowReady}
 
--- a register's elements are its bytes
-pub doubles-are : {s : ℕ} (vl : ℕ) → vl % 128 ≡ 0 → Result s → vl / (2 * s) * (s / 4) ≡ vl / 8
-doubles-are vl e r = ⊎-elim (λ b. rw b (omega arith)) (⊎-elim (λ b. rw b (omega arith)) (λ b. rw b (omega arith))) r
+module _ {file vl s shift zn zd : ℕ} (op : NarrowReady file vl s shift zn zd) (per w : ℕ) (whole : per * w ≡ 16) (some : 1 ≤ w) (width : Width w) (size : s ≡ 4 * w) where
+  bytes-are : vl / 128 % 32 * 16 ≡ vl / 8
+  bytes-are = let l = op .lengths in omega arith
 
-width-of : {s : ℕ} → Result s → Width (s / 4) × (s ≡ 4 * (s / 4))
-width-of r =
-    ⊎-elim (λ e. (inl (omega arith), omega arith))
-    (⊎-elim (λ e. (inr (inl (omega arith)), omega arith)) (λ e. (inr (inr (omega arith)), omega arith))) r
+  elements-are : vl / 128 % 32 * per ≡ vl / (2 * (4 * w))
+  elements-are =
+      let l = op .lengths in
+      let n = vl / 128 % 32 in
+      let e : 2 * (4 * w) ≡ w * 8 = omega arith in
+      let p : n * per * w ≡ n * 16 = mul-assoc n per w ∙ ap (λ (m : ℕ). n * m) whole in
+      let q : n * per * (w * 8) ≡ n * 16 * 8 = sym (mul-assoc (n * per) w 8) ∙ ap (λ (m : ℕ). m * 8) p in
+      let v : vl ≡ n * per * (w * 8) = omega arith in
+      sym (ap (λ (m : ℕ). vl / m) e ∙ div-eq-of-eq-mul-left (omega arith) v)
 
-pub result-bounds : {s : ℕ} → Result s → (8 ≤ s) × (s ≤ 32)
-result-bounds r = ⊎-elim (λ e. (omega arith, omega arith)) (⊎-elim (λ e. (omega arith, omega arith)) (λ e. (omega arith, omega arith))) r
-
-module _ {file vl s shift zn zd : ℕ} (op : NarrowReady file vl s shift zn zd) where
-  pub each-ready : {from to : ℕ} → from ≡ vl / 8 → to ≡ vl / 8 → EachReady from to (vl / (2 * s)) (s / 4) s shift
-  each-ready a b =
-      let n = doubles-are vl (op .lengths .even) (op .result) in
-      let m = op .lengths .most in record {
-        source = a ∙ sym n;
-        target = b ∙ sym n;
+  pub chunks-ready : ChunksReady file (vl / 128 % 32) per w shift zn zd
+  chunks-ready =
+      let m = op .lengths .most in
+      record {
+        slots = op .slots;
         room = omega arith;
-        width = width-of (op .result) .0;
-        half = width-of (op .result) .1;
+        whole = whole;
+        width = width;
         low = op .low;
-        high = op .high;
+        high = omega arith;
+        from = op .from;
+        to = op .to;
       }
 
-  -- Zd's part comes back as it was made of the copy `from`
-  pub finished : (z from c : List ℕ)
-      → 256 * zd + vl / 8 ≤ length z
-      → from ≡ slot 256 (vl / 8) zn z
-      → c ≡ fill (λ e. narrowed s shift (elem (s / 4) e from)) (s / 4) (vl / (2 * s))
-      → putMid (256 * zd) (256 * zd + vl / 8 - 256 * zd) z c ≡ uqrshrnbFile s shift vl zn zd z
+  pub chunks-are : isResult (4 * w) ≡ true
+      → (z o : List ℕ)
+      → o ≡ setSlot 256 (vl / 128 % 32 * 16) zd (fill (λ e. narrowed (4 * w) shift (elem w e (slot 256 (vl / 128 % 32 * 16) zn z))) w (vl / 128 % 32 * per)) z
+      → (true ≡ isResult s) × (o ≡ pick (isResult s) (uqrshrnbFile s shift vl zn zd z) z)
   unfolding uqrshrnbFile uqrshrnbOf
-  finished z from c h e ec =
-      put-back 256 (vl / 8) zd z c (uqrshrnbOf s shift vl (slot 256 (vl / 8) zn z)) h
-      (fill-length (λ i. narrowed s shift (elem (s / 4) i (slot 256 (vl / 8) zn z))) (s / 4) (vl / (2 * s)) ∙ doubles-are vl (op .lengths .even) (op .result))
-      (ec ∙ rw e)
+  chunks-are t z o h = let q : 4 * w / 4 ≡ w = omega arith in rw (size, t) (refl, rw (q, ← bytes-are, ← elements-are) h)

@@ -1,4 +1,5 @@
 pub mod Rounding
+pub mod Chunks
 pub mod Files
 pub mod Accepted
 pub mod BoardPoints

@@ -1,56 +1,95 @@
--- The code's rounding is the definition's, and so is its cut: by halving the next whole number, once over size, shift and register width.
+-- The code's rounding and cut are the definition's, once over size and shift: what lies above `top`, and nothing else, rounds past the greatest result.
 use mathlib.Core.Path.{_≡_, sym, ap, _∙_}
-use mathlib.Core.List.{List}
 use Prim.Native.Nat.{ℕ, _+_, _-_, _*_, _/_, _%_, _^_, _≤_, _<_}
-use native.Mathlib.Nat.{add-div-right, div-div-eq-div-mul, min-eq-left, min-eq-right, one-mul, lt-of-lt-of-le}
+use native.Mathlib.Nat.{min-eq-left, min-eq-right, min-le-right, one-mul, mul-comm, mul-div-mul-right, mod-eq-of-lt}
 use native.Mathlib.Omega.{arith}
 use lib.Dec.{lit<}
-use lib.ListN.{length, take, drop}
-use lib.Pow.{pow-pos, pow-add, pow-mono, shl-exact}
-use Rattle.element.proofs.Filling.{part-length}
+use lib.Pow.{pow-pos, pow-add, pow-mono, shl-lt, shl-exact, shl-shr, shr-mono, ones-lt, ones-split, lt-of-le-ones, high, low}
 use Rattle.narrow.specs.Narrow.{rounded, narrowed}
-use Rattle.part.specs.Parts.{Got}
+
+-- as the code computes them, in elements of 2s bits
+abbrev pub half : ℕ → ℕ → ℕ
+half s k = (1 * 2 ^ (k - 1)) % 2 ^ (s + s)
+
+abbrev pub top : ℕ → ℕ → ℕ
+top s k = ((2 ^ s - 1) * 2 ^ k) % 2 ^ (s + s) + (half s k - 1)
 
 double : (k : ℕ) → 1 ≤ k → 2 ^ k ≡ 2 ^ (k - 1) * 2
 double k h = let e : k ≡ (k - 1) + 1 = omega arith in ap (λ (n : ℕ). 2 ^ n) e ∙ pow-add 2 (k - 1) 1
 
-half-up : (h : ℕ) → h - h / 2 ≡ (h + 1) / 2
-half-up h = omega arith
+-- raised by m - t and lowered again, with h more
+pub lowered : (t h m x : ℕ) {y : ℕ} → t + h ≤ m → y ≡ x + (m - t) → y - (m - t - h) ≡ x + h
+lowered t h m x l e = omega arith
 
-pub rounds : (k x : ℕ) → 1 ≤ k → x / 2 ^ (k - 1) - x / 2 ^ (k - 1) / 2 ≡ rounded k x
-unfolding rounded
-rounds k x h =
-    half-up (x / 2 ^ (k - 1))
-    ∙ ap (λ (n : ℕ). n / 2) (sym (add-div-right x (pow-pos (k - 1))))
-    ∙ div-div-eq-div-mul (x + 2 ^ (k - 1)) (2 ^ (k - 1)) 2
-    ∙ ap (λ (n : ℕ). (x + 2 ^ (k - 1)) / n) (sym (double k h))
+module _ (s k : ℕ) (some : 1 ≤ k) (most : k ≤ s) where
+  -- no shift to the left loses a bit; with the rest every bound is one of sums
+  pub bounds : ((half s k ≡ 2 ^ (k - 1)) × (((2 ^ s - 1) * 2 ^ k) % 2 ^ (s + s) ≡ (2 ^ s - 1) * 2 ^ k)) × ((2 ^ k ≡ 2 ^ (k - 1) * 2) × ((1 ≤ 2 ^ (k - 1)) × (2 ^ k ≤ 2 ^ s)))
+  bounds = (
+    (shl-exact 1 (k - 1) (s + s) (lit< tt) (omega arith) ∙ one-mul (2 ^ (k - 1)), shl-exact s k (s + s) (ones-lt s) (omega arith)),
+    (double k some, (pow-pos (k - 1), pow-mono most)),
+  )
 
--- 1 shifted left in a register of w bits
-pub one-shl : (w s : ℕ) → s < w → (1 * 2 ^ s) % 2 ^ w ≡ 2 ^ s
-one-shl w s h = shl-exact 1 s w (lit< tt) (omega arith) ∙ one-mul (2 ^ s)
+  sum : top s k + half s k ≡ (2 ^ s - 1) * 2 ^ k + (2 ^ k - 1)
+  sum = let b = bounds in omega arith
 
--- the greatest result does not go below 0
-pub max-fits : (w s : ℕ) → s < w → 1 ≤ (1 * 2 ^ s) % 2 ^ w
-max-fits w s h = omega (arith, one-shl w s h, pow-pos s)
+  filled : (top s k + half s k) / 2 ^ k ≡ 2 ^ s - 1
+  filled = ap (λ (n : ℕ). n / 2 ^ k) sum ∙ high (2 ^ s - 1) k (ones-lt k)
 
-module _ (w s k x : ℕ) (small : s < w) (some : 1 ≤ k) where
-  -- under the cut
-  pub under : x / 2 ^ (k - 1) - x / 2 ^ (k - 1) / 2 ≤ (1 * 2 ^ s) % 2 ^ w - 1 → x / 2 ^ (k - 1) - x / 2 ^ (k - 1) / 2 ≡ narrowed s k x
-  unfolding narrowed
-  under h =
-      let l : x / 2 ^ (k - 1) - x / 2 ^ (k - 1) / 2 ≤ 2 ^ s - 1 = rw (one-shl w s small) at h in
-      rw (← rounds k x some) (sym (min-eq-left l))
+  module _ (x : ℕ) where
+    rounds : (x + half s k) / 2 ^ k ≡ rounded k x
+    unfolding rounded
+    rounds = rw (bounds .0 .0)
 
-  -- and over it
-  pub over : (1 * 2 ^ s) % 2 ^ w - 1 < x / 2 ^ (k - 1) - x / 2 ^ (k - 1) / 2 → (1 * 2 ^ s) % 2 ^ w - 1 ≡ narrowed s k x
-  unfolding narrowed
-  over h =
-      let g : 2 ^ s - 1 < x / 2 ^ (k - 1) - x / 2 ^ (k - 1) / 2 = rw (one-shl w s small) at h in
-      let l : 2 ^ s - 1 ≤ x / 2 ^ (k - 1) - x / 2 ^ (k - 1) / 2 = omega arith in
-      rw (one-shl w s small, ← rounds k x some) (sym (min-eq-right l))
+    pub under : x ≤ top s k → (x + half s k) / 2 ^ k ≡ narrowed s k x
+    unfolding narrowed
+    under h =
+        let o : x + half s k ≤ top s k + half s k = omega arith in
+        let l : (x + half s k) / 2 ^ k ≤ 2 ^ s - 1 = rw filled at (shr-mono k o) in
+        rounds ∙ sym (min-eq-left (rw rounds at l))
 
--- what is read of a part of at most 4 bytes fits 32 bits
-pub got-fits : (i n w : ℕ) (s : List ℕ) {m x : ℕ} → i < n → length s ≡ n * w → w ≤ 4 → Got (take (i * w + w - i * w) (drop (i * w) s)) m x → x < 2 ^ 32
-got-fits i n w s {m} {x} h l k g =
-    let e : x < 2 ^ (8 * w) = rw (part-length i n w s h l) at (g .below) in
-    let d : 8 * w ≤ 32 = omega arith in lt-of-lt-of-le e (pow-mono d)
+    over-max : top s k < x → 2 ^ s - 1 ≡ narrowed s k x
+    unfolding narrowed
+    over-max h =
+        let o : top s k + half s k ≤ x + half s k = omega arith in
+        let l : 2 ^ s - 1 ≤ (x + half s k) / 2 ^ k = rw filled at (shr-mono k o) in
+        sym (min-eq-right (rw rounds at l))
+
+    -- cut to `top`
+    pub over : top s k < x → (top s k + half s k) / 2 ^ k ≡ narrowed s k x
+    over h = filled ∙ over-max h
+
+    narrowed-lt : narrowed s k x < 2 ^ s
+    unfolding narrowed
+    narrowed-lt = lt-of-le-ones s (min-le-right (rounded k x) (2 ^ s - 1))
+
+    -- the low s bits of what is under
+    pub under-low : x ≤ top s k → (x + half s k) / 2 ^ k % 2 ^ s ≡ narrowed s k x
+    under-low h = ap (λ (n : ℕ). n % 2 ^ s) (under h) ∙ mod-eq-of-lt narrowed-lt
+
+    -- and of all ones
+    pub over-low : top s k < x → (2 ^ (s + s) - 1) / 2 ^ k % 2 ^ s ≡ narrowed s k x
+    over-low h =
+        let e : s + s ≡ s - k + s + k = omega arith in
+        ap (λ (n : ℕ). (2 ^ n - 1) / 2 ^ k % 2 ^ s) e
+        ∙ ap (λ (n : ℕ). n / 2 ^ k % 2 ^ s) (ones-split (s - k + s) k)
+        ∙ ap (λ (n : ℕ). n % 2 ^ s) (high (2 ^ (s - k + s) - 1) k (ones-lt k) ∙ ones-split (s - k) s)
+        ∙ low (2 ^ (s - k) - 1) s (ones-lt s)
+        ∙ over-max h
+
+  -- a shift by k as a product and a shift by s
+  parts : 2 ^ s ≡ 2 ^ (s - k) * 2 ^ k
+  parts = let e : s ≡ s - k + k = omega arith in ap (λ (n : ℕ). 2 ^ n) e ∙ pow-add 2 (s - k) k
+
+  quotient : 2 ^ s / 2 ^ k ≡ 2 ^ (s - k)
+  quotient = ap (λ (n : ℕ). n / 2 ^ k) parts ∙ shl-shr (2 ^ (s - k)) k
+
+  pub shifted : (v : ℕ) → v * (2 ^ s / 2 ^ k) / 2 ^ s ≡ v / 2 ^ k
+  shifted v =
+      let e : 2 ^ s ≡ 2 ^ k * 2 ^ (s - k) = parts ∙ mul-comm (2 ^ (s - k)) (2 ^ k) in
+      ap (λ (n : ℕ). v * n / 2 ^ s) quotient ∙ ap (λ (n : ℕ). v * 2 ^ (s - k) / n) e ∙ mul-div-mul-right v (2 ^ k) (pow-pos (s - k))
+
+  pub product-fits : (y : ℕ) → y ≤ top s k → (y + half s k) * (2 ^ s / 2 ^ k) < 2 ^ (s + s)
+  product-fits y h =
+      let l : y + half s k ≤ 2 ^ (s + k) - 1 = omega (arith, sum, ones-split s k) in
+      let e : s + k + (s - k) ≡ s + s = omega arith in
+      rw quotient (rw e at (shl-lt (s + k) (s - k) (lt-of-le-ones (s + k) l)))

@@ -1,6 +1,6 @@
 -- `narrow_all` meets its contract: after i turns o begins with the first i elements narrowed. The measure is what is left of the count.
 use borrow.Author.Needs.{needs}
-use Rattle.part.proofs.Widths.{width-le, element-read, element-stored}
+use Rattle.part.proofs.Widths.{element-read, element-stored}
 use mathlib.Core.Path.{_≡_, refl, ap, _∙_}
 use mathlib.Core.List.{_++_}
 use Prim.Native.Nat.{ℕ, _+_, _-_, _*_, _≤_}
@@ -10,15 +10,16 @@ use lib.ListN.{length, drop}
 use Rattle.element.specs.Contents.{elem, fill}
 use Rattle.element.proofs.Filling.{turn, again, done}
 use Rattle.narrow.specs.Narrow.{narrowed}
+use Rattle.narrow.proofs.Chunks.{element-below}
 use Rattle.narrow.proofs.elements.narrow_all.Statement.{statement}
 use Rattle.narrow.proofs.elements.narrow_all.Tie as tie
 
 abbrev Inv-loop : tie.InvT-loop
-Inv-loop s o₀ n w size shift i₀ o i =
-    (i ≤ n) × ((length o ≡ length o₀) × (o ≡ fill (λ (e : ℕ). narrowed size shift (elem w e s)) w i ++ drop (i * w) o₀))
+Inv-loop s o₀ n w shift i₀ o i =
+    (i ≤ n) × ((length o ≡ length o₀) × (o ≡ fill (λ (e : ℕ). narrowed (4 * w) shift (elem w e s)) w i ++ drop (i * w) o₀))
 
 abbrev μ-loop : tie.MeasureT-loop
-μ-loop s o₀ n w size shift i₀ o i = n - i
+μ-loop s o₀ n w shift i₀ o i = n - i
 
 room : (c : tie.In-loop Inv-loop μ-loop) → c .before .loop .i * c .before .before .before .before .args .w + c .before .before .before .before .args .w ≤ c .before .before .before .before .args .n * c .before .before .before .before .args .w
 room c = let a = c .before .before .before .before .args in turn (c .before .loop .i) (a .n) (a .w) (c .loop-test .taken)
@@ -46,7 +47,15 @@ read-requires : tie.Need-read-requires Inv-loop μ-loop
 read-requires c κs = search needs
 
 narrow-one-requires : tie.Need-narrow-one-requires Inv-loop μ-loop
-narrow-one-requires c κs = let a = c .before .before .before .before .before .before in let h = width-le (a .pre .width) in omega arith
+narrow-one-requires c κs =
+    let a = c .before .before .before .before .before .before in
+    let l = c .before .before .before .loop in
+    record {
+      width = a .pre .width;
+      below = element-below (l .i) (a .args .n) (a .args .w) (a .args .s .now) (c .before .before .loop-test .taken) (a .pre .source) (c .read .ensures);
+      low = a .pre .low;
+      high = a .pre .high;
+    }
 
 sub-write : tie.Need-sub-write Inv-loop μ-loop
 sub-write c = omega (arith, room (c .before .before .before))
@@ -75,7 +84,7 @@ loop-again c =
       (
         c .before .o .given .1 ∙ l .inv .1 .0,
         again
-            (λ (e : ℕ). narrowed (a .args .size) (a .args .shift) (elem (a .args .w) e (a .args .s .now)))
+            (λ (e : ℕ). narrowed (4 * a .args .w) (a .args .shift) (elem (a .args .w) e (a .args .s .now)))
             (a .args .w)
             (l .i)
             (a .args .n)
@@ -86,7 +95,7 @@ loop-again c =
             t
             (l .inv .1 .0 ∙ a .pre .target)
             (l .inv .1 .1)
-            (c .before .before .before .before .narrow-one .ensures ∙ ap (narrowed (a .args .size) (a .args .shift)) (element-read (l .i) (a .args .n) (a .args .w) (a .args .s .now) t (a .pre .source) (a .pre .width) (c .before .before .before .before .before .read .ensures)))
+            (c .before .before .before .before .narrow-one .ensures ∙ ap (narrowed (4 * a .args .w) (a .args .shift)) (element-read (l .i) (a .args .n) (a .args .w) (a .args .s .now) t (a .pre .source) (a .pre .width) (c .before .before .before .before .before .read .ensures)))
             (element-stored (l .i) (a .args .n) (a .args .w) (l .o) t (l .inv .1 .0 ∙ a .pre .target) (a .pre .width) _ (c .before .before .write .ensures)),
       ),
     )
@@ -98,7 +107,7 @@ returns : tie.Need-returns Inv-loop μ-loop
 returns c =
     let a = c .before .before .before .before in
     let l = c .before .loop in
-    done (λ (e : ℕ). narrowed (a .args .size) (a .args .shift) (elem (a .args .w) e (a .args .s .now))) (a .args .w) (l .i) (a .args .n) (a .args .o .now) (l .o) (l .inv .0) (c .loop-test .left) (a .pre .target) (l .inv .1 .1)
+    done (λ (e : ℕ). narrowed (4 * a .args .w) (a .args .shift) (elem (a .args .w) e (a .args .s .now))) (a .args .w) (l .i) (a .args .n) (a .args .o .now) (l .o) (l .inv .0) (c .loop-test .left) (a .pre .target) (l .inv .1 .1)
 
 pub narrow-all-spec : {M : Type 1} → statement M
 narrow-all-spec =
