@@ -1,5 +1,5 @@
 -- Chunks of 16 bytes, from Zn's slot to Zd's in one file: those not yet taken are still what they were, also where the two are one slot.
-use mathlib.Core.Path.{_≡_, refl, sym, ap, _∙_}
+use mathlib.Core.Path.{_≡_, sym, ap, _∙_}
 use mathlib.Core.List.{List, _++_, append-assoc, append-nil}
 use Prim.Native.Nat.{ℕ, _+_, _-_, _*_, _^_, _≤_, _<_}
 use native.Mathlib.Nat.{lt-of-not-le, zero-mul, add-mul, suc-mul, mul-assoc}

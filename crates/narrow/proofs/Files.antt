@@ -1,14 +1,16 @@
 -- The chunks of a register are its bytes, and their elements its elements: once over the width.
-use mathlib.Core.Path.{_≡_, sym, ap, _∙_}
+use mathlib.Core.Path.{_≡_, refl, sym, ap, _∙_}
+use mathlib.Core.Bool.{true}
 use mathlib.Core.List.{List}
-use Prim.Native.Nat.{ℕ, _*_, _/_, _%_, _≤_, _<_}
+use Prim.Native.Nat.{ℕ, _*_, _/_, _%_, _≤_}
 use native.Mathlib.Nat.{mul-assoc, div-eq-of-eq-mul-left}
 use native.Mathlib.Omega.{arith}
 use Rattle.element.specs.Contents.{elem, fill}
+use Rattle.element.specs.Size.{pick}
 use Rattle.element.specs.Slots.{slot, setSlot}
 use Rattle.part.specs.Parts.{Width}
 use Rattle.narrow.specs.Narrow.{narrowed, uqrshrnbOf, uqrshrnbFile}
-use Rattle.narrow.specs.Needed.{ChunksReady, NarrowReady}
+use Rattle.narrow.specs.Needed.{isResult, ChunksReady, NarrowReady}
 
 module _ {file vl s shift zn zd : ℕ} (op : NarrowReady file vl s shift zn zd) (per w : ℕ) (whole : per * w ≡ 16) (some : 1 ≤ w) (width : Width w) (size : s ≡ 4 * w) where
   bytes-are : vl / 128 % 32 * 16 ≡ vl / 8
@@ -38,8 +40,9 @@ module _ {file vl s shift zn zd : ℕ} (op : NarrowReady file vl s shift zn zd) 
         to = op .to;
       }
 
-  pub chunks-are : (z o : List ℕ)
+  pub chunks-are : isResult (4 * w) ≡ true
+      → (z o : List ℕ)
       → o ≡ setSlot 256 (vl / 128 % 32 * 16) zd (fill (λ e. narrowed (4 * w) shift (elem w e (slot 256 (vl / 128 % 32 * 16) zn z))) w (vl / 128 % 32 * per)) z
-      → o ≡ uqrshrnbFile s shift vl zn zd z
+      → (true ≡ isResult s) × (o ≡ pick (isResult s) (uqrshrnbFile s shift vl zn zd z) z)
   unfolding uqrshrnbFile uqrshrnbOf
-  chunks-are z o h = let q : 4 * w / 4 ≡ w = omega arith in rw (size, q, ← bytes-are, ← elements-are) h
+  chunks-are t z o h = let q : 4 * w / 4 ≡ w = omega arith in rw (size, t) (refl, rw (q, ← bytes-are, ← elements-are) h)

@@ -3,9 +3,10 @@ ghost use mathlib.Core.Path.{_≡_};
 ghost use Prim.Native.Nat.{_*_};
 ghost use lib.ListN.{length};
 ghost use Rattle.element.specs.Contents.{elem, fill};
+ghost use Rattle.element.specs.Size.{pick};
 ghost use Rattle.element.specs.Slots.{slot, setSlot};
 ghost use Rattle.narrow.specs.Narrow.{narrowed, uqrshrnbFile};
-ghost use Rattle.narrow.specs.Needed.{EachReady, ChunksReady, NarrowReady};
+ghost use Rattle.narrow.specs.Needed.{isResult, EachReady, ChunksReady, NarrowReady};
 use crate::one;
 
 // Each of the n elements of s, narrowed, into o.
@@ -45,18 +46,31 @@ fn narrow_chunks(z: &mut [u8], n: usize, per: usize, w: usize, shift: u32, zn: u
 }
 
 // The width is a literal: the compiler makes a loop for each. No length has 32 chunks, and the remainder says so to the compiler.
-pub(crate) fn narrow_file(z: &mut [u8], vl: usize, size: u32, shift: u32, zn: usize, zd: usize)
+// False, and nothing is written, for another size.
+pub(crate) fn narrow_file(
+    z: &mut [u8],
+    vl: usize,
+    size: u32,
+    shift: u32,
+    zn: usize,
+    zd: usize,
+) -> bool
     requires { ⌜ NarrowReady (length (now z)) vl size shift zn zd ⌝ }
-    ensures { λ _. ⌜ now (z .exit) ≡ uqrshrnbFile size shift vl zn zd (now (z .entry)) ⌝ }
+    ensures { λ r. ⌜ r ≡ isResult size ⌝ }
+    ensures { λ _. ⌜ now (z .exit) ≡ pick (isResult size) (uqrshrnbFile size shift vl zn zd (now (z .entry))) (now (z .entry)) ⌝ }
 {
     let n = vl / 128 % 32;
     if size == 8 {
         narrow_chunks(z, n, 8, 2, shift, zn, zd);
-        return;
+        return true;
     }
     if size == 16 {
         narrow_chunks(z, n, 4, 4, shift, zn, zd);
-        return;
+        return true;
     }
-    narrow_chunks(z, n, 2, 8, shift, zn, zd);
+    if size == 32 {
+        narrow_chunks(z, n, 2, 8, shift, zn, zd);
+        return true;
+    }
+    false
 }

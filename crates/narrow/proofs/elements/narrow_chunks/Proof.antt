@@ -1,23 +1,24 @@
--- `narrow_chunks` meets its contract.
+-- `narrow_chunks` meets its contract: after i turns Zd's slot begins with the first i chunks narrowed. The measure is what is left of the count.
 use mathlib.Core.Path.{_≡_, refl, sym, ap, _∙_}
-use Prim.Native.Nat.{ℕ, _+_, _-_, _*_, _≤_, _<_}
+use mathlib.Core.List.{List}
+use Prim.Native.Nat.{ℕ, _+_, _-_, _*_, _≤_}
 use native.Mathlib.Omega.{arith}
 use lib.ListN.{length, take, drop, length-take, length-drop}
-use Rattle.element.specs.Contents.{elem, fill}
+use Rattle.element.specs.Contents.{elem}
 use Rattle.element.specs.Slots.{slot}
 use Rattle.narrow.specs.Narrow.{narrowed}
 use Rattle.narrow.proofs.Chunks.{upTo, begun, again, finished, kept, chunk-length, chunk-made}
 use borrow.Author.Needs.{needs}
 use Rattle.narrow.proofs.elements.narrow_chunks.Statement.{statement}
 use Rattle.narrow.proofs.elements.narrow_chunks.Tie as tie
-use Rattle.narrow.proofs.elements.narrow_chunks.Reads as reads
-use Rattle.narrow.proofs.elements.narrow_chunks.Lts as lts
-use Rattle.bytes.proofs.copy.Reads as copy-reads
-use Rattle.narrow.proofs.elements.narrow_all.Reads as narrow-all-reads
+
+-- element e of Zn's low n chunks, narrowed
+abbrev element : ℕ → ℕ → ℕ → ℕ → List ℕ → ℕ → ℕ
+element n w shift zn z e = narrowed (4 * w) shift (elem w e (slot 256 (n * 16) zn z))
 
 abbrev Inv-loop : tie.InvT-loop
 Inv-loop z₀ n per w shift zn zd from to i₀ z i =
-    (i ≤ n) × ((length z ≡ length z₀) × (z ≡ upTo (λ (e : ℕ). narrowed (4 * w) shift (elem w e (slot 256 (n * 16) zn z₀))) w per (256 * zd) i z₀))
+    (i ≤ n) × ((length z ≡ length z₀) × (z ≡ upTo (element n w shift zn z₀) w per (256 * zd) i z₀))
 
 abbrev μ-loop : tie.MeasureT-loop
 μ-loop z₀ n per w shift zn zd from to i₀ z i = n - i
@@ -29,7 +30,7 @@ mul-to : tie.Need-mul-to Inv-loop μ-loop
 mul-to c = search needs
 
 loop-holds : tie.Need-loop-holds Inv-loop μ-loop
-loop-holds c = let a = c .before in (omega arith, (refl, begun (λ (e : ℕ). narrowed (4 * a .args .w) (a .args .shift) (elem (a .args .w) e (slot 256 (a .args .n * 16) (a .args .zn) (a .args .z .now)))) (a .args .w) (a .args .per) (a .pre .whole) (a .args .z .now) (256 * a .args .zd)))
+loop-holds c = let a = c .before in (omega arith, (refl, begun (element (a .args .n) (a .args .w) (a .args .shift) (a .args .zn) (a .args .z .now)) (a .args .w) (a .args .per) (a .pre .whole) (a .args .z .now) (256 * a .args .zd)))
 
 mul-a : tie.Need-mul-a Inv-loop μ-loop
 mul-a c = search needs
@@ -70,7 +71,7 @@ held c =
     let a = c .before .before .before .before .before .before .before in
     let l = c .before .before .before .before .before .loop in
     kept
-    (λ (e : ℕ). narrowed (4 * a .args .w) (a .args .shift) (elem (a .args .w) e (slot 256 (a .args .n * 16) (a .args .zn) (a .args .z .now))))
+    (element (a .args .n) (a .args .w) (a .args .shift) (a .args .zn) (a .args .z .now))
     (a .args .w)
     (a .args .per)
     (a .pre .whole)
@@ -131,7 +132,7 @@ loop-again c =
       (
         c .before .z2 .given .1 ∙ l .inv .1 .0,
         again
-            (λ (e : ℕ). narrowed (4 * a .args .w) (a .args .shift) (elem (a .args .w) e (slot 256 (a .args .n * 16) (a .args .zn) (a .args .z .now))))
+            (element (a .args .n) (a .args .w) (a .args .shift) (a .args .zn) (a .args .z .now))
             (a .args .w)
             (a .args .per)
             (a .pre .whole)
@@ -154,7 +155,7 @@ returns c =
     let a = c .before .before .before in
     let l = c .before .loop in
     finished
-    (λ (e : ℕ). narrowed (4 * a .args .w) (a .args .shift) (elem (a .args .w) e (slot 256 (a .args .n * 16) (a .args .zn) (a .args .z .now))))
+    (element (a .args .n) (a .args .w) (a .args .shift) (a .args .zn) (a .args .z .now))
     (a .args .w)
     (a .args .per)
     (a .pre .whole)

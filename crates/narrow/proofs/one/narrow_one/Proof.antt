@@ -1,9 +1,6 @@
 -- `narrow_one` meets its contract: each width by its function.
-use mathlib.Core.Path.{_≡_, ap, _∙_}
+use mathlib.Core.Path.{_≡_, _∙_}
 use mathlib.Core.Logic.{⊎-elim}
-use Prim.Native.Nat.{ℕ, _*_, _^_}
-use native.Mathlib.Omega.{arith}
-use Rattle.narrow.specs.Narrow.{narrowed}
 use borrow.Author.Needs.{needs}
 use Rattle.narrow.proofs.one.narrow_one.Statement.{statement}
 use Rattle.narrow.proofs.one.narrow_one.Tie as tie

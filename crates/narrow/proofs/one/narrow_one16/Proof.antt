@@ -1,7 +1,7 @@
 -- `narrow_one16` meets its contract: lowered again, what was raised is the element, or `top`, and half.
 use mathlib.Core.Path.{ap, _∙_}
 use mathlib.Core.Logic.{⊎-elim}
-use Prim.Native.Nat.{ℕ, _-_, _/_, _^_}
+use Prim.Native.Nat.{ℕ, _/_, _^_}
 use native.Mathlib.Omega.{arith}
 use Rattle.narrow.proofs.Rounding.{half, top, bounds, lowered, under, over}
 use borrow.Author.Needs.{needs}

@@ -1,9 +1,9 @@
 -- `narrow_one32` meets its contract: the low bits of the rounded element, or of all ones.
 use mathlib.Core.Path.{ap, _∙_}
 use mathlib.Core.Logic.{⊎-elim}
-use Prim.Native.Nat.{ℕ, _-_, _/_, _%_, _^_}
+use Prim.Native.Nat.{ℕ, _/_, _%_, _^_}
 use native.Mathlib.Omega.{arith}
-use Rattle.narrow.proofs.Rounding.{half, top, bounds, under-low, over-low}
+use Rattle.narrow.proofs.Rounding.{bounds, under-low, over-low}
 use borrow.Author.Needs.{needs}
 use Rattle.narrow.proofs.one.narrow_one32.Statement.{statement}
 use Rattle.narrow.proofs.one.narrow_one32.Tie as tie
@@ -34,7 +34,6 @@ returns c =
     let a = c .before .before in
     let k = a .args .shift in
     let x = a .args .x in
-    let b = bounds 16 k (a .pre .0) (a .pre .1) in
     ⊎-elim
     (λ w. ap (λ (n : ℕ). n / 2 ^ k % 65536) (w .1) ∙ under-low 16 k (a .pre .0) (a .pre .1) x (w .0 .taken))
     (λ w. ap (λ (n : ℕ). n / 2 ^ k % 65536) (w .1) ∙ over-low 16 k (a .pre .0) (a .pre .1) x (w .0 .left))

@@ -1,9 +1,9 @@
 -- `narrow_one64` meets its contract: the product and its shift are the shift by a number.
 use mathlib.Core.Path.{ap, _∙_}
 use mathlib.Core.Logic.{⊎-elim}
-use Prim.Native.Nat.{ℕ, _+_, _-_, _/_, _^_}
+use Prim.Native.Nat.{ℕ, _+_, _/_, _^_}
 use native.Mathlib.Omega.{arith}
-use Rattle.narrow.proofs.Rounding.{half, top, bounds, under, over, shifted, product-fits}
+use Rattle.narrow.proofs.Rounding.{half, bounds, under, over, shifted, product-fits}
 use borrow.Author.Needs.{needs}
 use Rattle.narrow.proofs.one.narrow_one64.Statement.{statement}
 use Rattle.narrow.proofs.one.narrow_one64.Tie as tie
@@ -42,7 +42,6 @@ returns c =
     let a = c .before .before in
     let k = a .args .shift in
     let x = a .args .x in
-    let b = bounds 32 k (a .pre .0) (a .pre .1) in
     shifted 32 k (a .pre .0) (a .pre .1) _ ∙ ⊎-elim
     (λ w. ap (λ (n : ℕ). (n + half 32 k) / 2 ^ k) (w .1) ∙ under 32 k (a .pre .0) (a .pre .1) x (w .0 .taken))
     (λ w. ap (λ (n : ℕ). (n + half 32 k) / 2 ^ k) (w .1) ∙ over 32 k (a .pre .0) (a .pre .1) x (w .0 .left))
