@@ -116,11 +116,7 @@ fn values(kind: u32, setting: Setting, a: u32, b: u32, c: u32, d: u32, e: u32, f
     }
 }
 
-pub(crate) fn answer(question: &[u32; 9]) -> bool {
-    let setting = Setting {
-        vl: question[1],
-        features: question[2],
-    };
+pub(crate) fn answer(setting: Setting, question: &[u32; 9]) -> bool {
     let line = values(
         question[0],
         setting,

@@ -5,18 +5,30 @@
 // question has, and writes the answer.
 mod forms;
 mod generator;
+mod machines;
 mod numbers;
+mod runs;
 mod steps;
+mod stretches;
+
+use setting::Setting;
 
 // One question and its answer; false where the input ends, or has a kind that no module answers.
 fn answer_next() -> bool {
     let mut question = [0u32; 9];
-    if !numbers::read(&mut question) {
+    if !numbers::read(&mut question, 9) {
         return false;
     }
+    let setting = Setting {
+        vl: question[1],
+        features: question[2],
+    };
     match question[0] {
-        0..=6 => forms::answer(&question),
-        7 => steps::answer(&question),
+        0..=6 => forms::answer(setting, &question),
+        7 => steps::answer(setting, &question),
+        8 => stretches::conflict(setting, &question),
+        9 => runs::answer(setting, &question),
+        10 => stretches::permission(setting, &question),
         _ => false,
     }
 }

@@ -37,18 +37,28 @@ fn next_number() -> Number {
     }
 }
 
-// The next numbers of the input, as many as there are places; false where it ends before.
-pub(crate) fn read(places: &mut [u32]) -> bool {
-    let mut i: usize = 0;
-    while i < places.len() {
+// The next n numbers of the input into the first n places; false where it ends before, or the places are fewer.
+pub(crate) fn read(places: &mut [u32], n: u32) -> bool {
+    let mut i: u32 = 0;
+    while i < n {
+        let at = i as usize;
         let number = next_number();
-        if !number.there {
+        if !number.there || at >= places.len() {
             return false;
         }
-        places[i] = number.value;
+        places[at] = number.value;
         i += 1;
     }
     true
+}
+
+// The first n numbers of a list, or all where it has fewer.
+pub(crate) fn prefix(list: &[u32], n: u32) -> &[u32] {
+    let end = n as usize;
+    if list.len() <= end {
+        return list;
+    }
+    &list[..end]
 }
 
 fn glyph(digit: u32) -> u8 {
@@ -71,6 +81,12 @@ fn text_of(value: u32, after: u8) -> [u8; 9] {
 // Takes the array, not a slice: its length is then known.
 fn print(text: &[u8; 9]) -> bool {
     io::write_all(STDOUT_FILENO, text)
+}
+
+// The first number of a line that goes on; false where it was not written whole.
+pub(crate) fn begin(first: u32) -> bool {
+    let text = text_of(first, b' ');
+    print(&text)
 }
 
 fn after(last: bool) -> u8 {

@@ -1,4 +1,4 @@
--- `read` is safe and ends: the places stay as many, and i is at most that.
+-- `read` is safe and ends: the places stay as many, a store is tested to lie in them, and i is at most n.
 use mathlib.Core.Path.{_≡_}
 use Prim.Native.Nat.{_≤_, _-_}
 use native.Mathlib.Omega.{arith}
@@ -8,13 +8,16 @@ use Rattle.vectors.proofs.numbers.read.Statement.{statement}
 use Rattle.vectors.proofs.numbers.read.Tie as tie
 
 abbrev Inv-loop : tie.InvT-loop
-Inv-loop places₀ i₀ places i = (i ≤ length places) × (length places ≡ length places₀)
+Inv-loop places₀ n i₀ places i = (i ≤ n) × (length places ≡ length places₀)
 
 abbrev μ-loop : tie.MeasureT-loop
-μ-loop places₀ i₀ places i = length places - i
+μ-loop places₀ n i₀ places i = n - i
 
 loop-holds : tie.Need-loop-holds Inv-loop μ-loop
 loop-holds c = search needs
+
+cast-at : tie.Need-cast-at Inv-loop μ-loop
+cast-at c = search needs
 
 next-number-requires : tie.Need-next-number-requires Inv-loop μ-loop
 next-number-requires c κs = search needs
@@ -35,7 +38,7 @@ add-i : tie.Need-add-i Inv-loop μ-loop
 add-i c = search needs
 
 loop-less : tie.Need-loop-less Inv-loop μ-loop
-loop-less c = simp length-set (omega arith)
+loop-less c = search needs
 
 loop-again : tie.Need-loop-again Inv-loop μ-loop
 loop-again c = simp length-set (omega arith)
@@ -53,6 +56,7 @@ read-spec =
     Inv-loop
     μ-loop
     loop-holds
+    cast-at
     next-number-requires
     same-length
     returns
