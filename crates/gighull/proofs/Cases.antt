@@ -17,7 +17,7 @@ use Rattle.encoding.specs.declared.Decoded.the-variants.{Fields, Refused}
 use Rattle.encoding.specs.declared.Instruction.{Instruction}
 use Rattle.encoding.specs.declared.Instruction.the-variants.{Pext1, Pext2, Dup, Luti4c, Luti4s, Uqrshrnb}
 use Rattle.listing.specs.Buffer.{Wrote}
-use Rattle.listing.proofs.Spelled.{spelled}
+use Rattle.element.proofs.Spelled.{spelled}
 use Rattle.gighull.specs.Fields.{numbersOf, readInto, instructionAt, instructionOf, refusedOf}
 use Rattle.gighull.specs.Buffers.{fitting}
 

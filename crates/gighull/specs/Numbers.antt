@@ -1,4 +1,5 @@
 -- Document 01, "Setting" and "Numbers the bench answers with": the two loose numbers of a C call as a setting, and an outcome's number.
+use mathlib.Core.Bool.{Bool, true, false}
 use Prim.Native.Nat.{ℕ}
 use Rattle.setting.specs.Numbers.{Outcome, accept, refuse}
 use Rattle.setting.specs.declared.Setting.{Setting}
@@ -10,3 +11,9 @@ settingOf vl features = record { vl = vl; features = features }
 abbrev pub numberIn : {A : Type 0} → Outcome A → ℕ
 numberIn (accept a) = 0
 numberIn (refuse n) = n
+
+-- 1 for yes; 0 for no, and where the question is refused
+abbrev pub yesIn : Outcome Bool → ℕ
+yesIn (accept true) = 1
+yesIn (accept false) = 0
+yesIn (refuse n) = 0

@@ -1,17 +1,21 @@
 // The C interface: numbers, slices (a pointer, then a length) and the scalar record cross it. include/gighull.h declares it for C.
 // A function answers document 01's number, and leaves its values in what is lent to it.
 mod fields;
+mod replies;
 
 ghost use mathlib.Core.Path.{_≡_};
 ghost use Rattle.setting.specs.Numbers.{numberOf};
 ghost use Rattle.machine.specs.Machine.{machine};
 ghost use Rattle.machine.specs.Step.{stepOf};
+ghost use Rattle.machine.specs.Run.{runOf};
 ghost use Rattle.encoding.specs.Decode.{decodeOf};
 ghost use Rattle.encoding.specs.Encode.{encodedAs};
+ghost use Rattle.stretch.specs.Conflict.{conflictOf};
+ghost use Rattle.stretch.specs.Permission.{permittedOf};
 ghost use Rattle.listing.specs.Buffer.{Wrote, listedOf, outOf};
-ghost use Rattle.console.specs.Lent.{stepAs};
+ghost use Rattle.console.specs.Lent.{stepAs, runAs};
 ghost use Rattle.console.specs.Parts.{vectorOf, predicateOf};
-ghost use Rattle.gighull.specs.Numbers.{settingOf, numberIn};
+ghost use Rattle.gighull.specs.Numbers.{settingOf, numberIn, yesIn};
 ghost use Rattle.gighull.specs.Fields.{readInto, refusedOf, writeOf, writtenAs};
 ghost use Rattle.gighull.specs.Buffers.{fitting, listedAs};
 use encoding::Decoded;
@@ -35,6 +39,56 @@ pub extern "C" fn gighull_step(
 {
     let answer = console::step_lent(z, p, zt, scalars, Setting { vl, features }, word);
     setting::number(answer)
+}
+
+// A stretch of words on the lent machine. How many were done is left beside the record.
+#[no_mangle]
+pub extern "C" fn gighull_run(
+    z: &mut [u8],
+    p: &mut [u8],
+    zt: &mut [u8],
+    scalars: &mut Scalars,
+    vl: u32,
+    features: u32,
+    words: &[u32],
+    done: &mut usize,
+) -> u32
+    ensures { λ r. ⌜ runAs r (now (done .exit)) (now (z .exit)) (now (p .exit)) (now (zt .exit)) (now (scalars .exit)) ≡ runOf (settingOf vl features) (now (words .entry)) (machine (now (z .entry)) (now (p .entry)) (now (zt .entry)) (now (scalars .entry))) ⌝ }
+{
+    let answer = console::run_lent(z, p, zt, scalars, Setting { vl, features }, words, done);
+    setting::number(answer)
+}
+
+// Whether two words conflict: 1 for yes.
+#[no_mangle]
+pub extern "C" fn gighull_conflict(
+    vl: u32,
+    features: u32,
+    first: u32,
+    second: u32,
+    conflict: &mut u32,
+) -> u32
+    ensures { λ r. ⌜ (r ≡ numberIn (conflictOf (settingOf vl features) first second)) × (now (conflict .exit) ≡ yesIn (conflictOf (settingOf vl features) first second)) ⌝ }
+{
+    let reply = stretch::conflict(Setting { vl, features }, first, second);
+    *conflict = replies::yes(reply);
+    replies::number(reply)
+}
+
+// Whether an order of a stretch's positions is a permitted rearrangement of it: 1 for yes.
+#[no_mangle]
+pub extern "C" fn gighull_permitted(
+    vl: u32,
+    features: u32,
+    words: &[u32],
+    order: &[u32],
+    permitted: &mut u32,
+) -> u32
+    ensures { λ r. ⌜ (r ≡ numberIn (permittedOf (settingOf vl features) (now (words .entry)) (now (order .entry)))) × (now (permitted .exit) ≡ yesIn (permittedOf (settingOf vl features) (now (words .entry)) (now (order .entry)))) ⌝ }
+{
+    let reply = stretch::permitted(Setting { vl, features }, words, order);
+    *permitted = replies::yes(reply);
+    replies::number(reply)
 }
 
 // What a word is read as: seven numbers, the form's place in the table first.

@@ -3,3 +3,12 @@ pub mod Passed
 pub mod Orders
 pub mod Copies
 pub mod Permissions
+pub mod Shared
+pub mod Known
+pub mod Clashes
+pub mod Readings
+pub mod Turns
+pub mod Places
+pub mod Tabled
+pub mod Listed
+pub mod Permitting

@@ -1,3 +1,5 @@
 pub mod Conflict
 pub mod Permission
 pub mod Claims
+pub mod Bits
+pub mod Tables

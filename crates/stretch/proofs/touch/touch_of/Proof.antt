@@ -1,0 +1,160 @@
+-- `touch_of` meets its contract: in each arm the instruction is known, its fields are in range, and the bits are those of its row.
+use native.Mathlib.Omega.{arith}
+use lib.Bits.{or-zero-r}
+use Rattle.encoding.proofs.FieldLaws.{dup-ranges, known-range}
+use Rattle.stretch.specs.Bits.{bitOf, bitsOf}
+use Rattle.stretch.proofs.Known.{known-as}
+use borrow.Author.Needs.{needs}
+use Rattle.stretch.proofs.touch.touch_of.Statement.{statement}
+use Rattle.stretch.proofs.touch.touch_of.Tie as tie
+
+enum-known-instruction : tie.Need-enum-known-instruction
+enum-known-instruction c = search needs
+
+predicate-requires : tie.Need-predicate-requires
+predicate-requires c κs = known-as (c .before .instruction .given .1) (c .before .before .before .pre) .0 .0
+
+predicate-requires-2 : tie.Need-predicate-requires-2
+predicate-requires-2 c κs = known-as (c .before .before .instruction .given .1) (c .before .before .before .before .pre) .1 .0
+
+join-requires : tie.Need-join-requires
+join-requires c κs = search needs
+
+enum-known-instruction-2 : tie.Need-enum-known-instruction-2
+enum-known-instruction-2 c = search needs
+
+predicate-requires-3 : tie.Need-predicate-requires-3
+predicate-requires-3 c κs = known-as (c .before .instruction2 .given .1) (c .before .before .before .pre) .0 .0
+
+predicate-requires-4 : tie.Need-predicate-requires-4
+predicate-requires-4 c κs = known-as (c .before .before .instruction2 .given .1) (c .before .before .before .before .pre) .1 .0
+
+add-predicate : tie.Need-add-predicate
+add-predicate c = omega (arith, known-as (c .before .before .before .instruction2 .given .1) (c .before .before .before .before .before .pre) .1 .0)
+
+predicate-requires-5 : tie.Need-predicate-requires-5
+predicate-requires-5 c κs = search needs
+
+join-requires-2 : tie.Need-join-requires-2
+join-requires-2 c κs = search needs
+
+enum-known-instruction-3 : tie.Need-enum-known-instruction-3
+enum-known-instruction-3 c = search needs
+
+predicate-requires-6 : tie.Need-predicate-requires-6
+predicate-requires-6 c κs = known-as (c .before .instruction3 .given .1) (c .before .before .before .pre) .0 .0
+
+predicate-requires-7 : tie.Need-predicate-requires-7
+predicate-requires-7 c κs = known-as (c .before .before .instruction3 .given .1) (c .before .before .before .before .pre) .0 .1 .0
+
+scalar-requires : tie.Need-scalar-requires
+scalar-requires c κs =
+    let r = c .before .before .before in
+    let g = r .instruction3 .given .0 in
+    let d = dup-ranges (g .0) (g .1 .0) (g .1 .1 .0) (g .1 .1 .1 .0) (g .1 .1 .1 .1 .0) (g .1 .1 .1 .1 .1 .0) (known-range (r .instruction3 .given .1) (r .before .before .pre)) in
+    (d .index-ge, d .index-lt)
+
+predicate-requires-8 : tie.Need-predicate-requires-8
+predicate-requires-8 c κs = known-as (c .before .before .before .before .instruction3 .given .1) (c .before .before .before .before .before .before .pre) .1 .0
+
+join-requires-3 : tie.Need-join-requires-3
+join-requires-3 c κs = search needs
+
+enum-known-instruction-4 : tie.Need-enum-known-instruction-4
+enum-known-instruction-4 c = search needs
+
+vector-requires : tie.Need-vector-requires
+vector-requires c κs = known-as (c .before .instruction4 .given .1) (c .before .before .before .pre) .0 .0
+
+four-requires : tie.Need-four-requires
+four-requires c κs = known-as (c .before .before .instruction4 .given .1) (c .before .before .before .before .pre) .1 .1 .1 .1 .0
+
+join-requires-4 : tie.Need-join-requires-4
+join-requires-4 c κs = search needs
+
+enum-known-instruction-5 : tie.Need-enum-known-instruction-5
+enum-known-instruction-5 c = search needs
+
+vector-requires-2 : tie.Need-vector-requires-2
+vector-requires-2 c κs = known-as (c .before .instruction5 .given .1) (c .before .before .before .pre) .0 .0
+
+four-requires-2 : tie.Need-four-requires-2
+four-requires-2 c κs = known-as (c .before .before .instruction5 .given .1) (c .before .before .before .before .pre) .1 .1 .1 .1 .0
+
+join-requires-5 : tie.Need-join-requires-5
+join-requires-5 c κs = search needs
+
+enum-known-instruction-6 : tie.Need-enum-known-instruction-6
+enum-known-instruction-6 c = search needs
+
+vector-requires-3 : tie.Need-vector-requires-3
+vector-requires-3 c κs = known-as (c .before .instruction6 .given .1) (c .before .before .before .pre) .0 .0
+
+vector-requires-4 : tie.Need-vector-requires-4
+vector-requires-4 c κs = known-as (c .before .before .instruction6 .given .1) (c .before .before .before .before .pre) .1 .0
+
+join-requires-6 : tie.Need-join-requires-6
+join-requires-6 c κs = search needs
+
+returns : tie.Need-returns
+unfolding bitOf bitsOf
+returns c = rw (c .before .before .before .before .instruction .given .1, c .join .ensures, c .before .predicate2 .ensures, c .before .before .predicate .ensures, or-zero-r, or-zero-r)
+
+returns-2 : tie.Need-returns-2
+unfolding bitOf bitsOf
+returns-2 c = rw (c .before .before .before .before .before .instruction2 .given .1, c .join2 .ensures, c .before .predicate5 .ensures, c .before .before .predicate4 .ensures, c .before .before .before .predicate3 .ensures, or-zero-r, or-zero-r)
+
+returns-3 : tie.Need-returns-3
+unfolding bitOf bitsOf
+returns-3 c = rw (c .before .before .before .before .before .before .instruction3 .given .1, c .join3 .ensures, c .before .predicate8 .ensures, c .before .before .scalar .ensures, c .before .before .before .predicate7 .ensures, c .before .before .before .before .predicate6 .ensures, or-zero-r, or-zero-r)
+
+returns-4 : tie.Need-returns-4
+unfolding bitOf bitsOf
+returns-4 c = rw (c .before .before .before .before .instruction4 .given .1, c .join4 .ensures, c .before .four .ensures, c .before .before .vector .ensures, or-zero-r, or-zero-r)
+
+returns-5 : tie.Need-returns-5
+unfolding bitOf bitsOf
+returns-5 c = rw (c .before .before .before .before .instruction5 .given .1, c .join5 .ensures, c .before .four2 .ensures, c .before .before .vector2 .ensures, or-zero-r, or-zero-r)
+
+returns-6 : tie.Need-returns-6
+unfolding bitOf bitsOf
+returns-6 c = rw (c .before .before .before .before .instruction6 .given .1, c .join6 .ensures, c .before .vector4 .ensures, c .before .before .vector3 .ensures, or-zero-r, or-zero-r)
+
+pub touch-of-spec : {M : Type 1} → statement M
+touch-of-spec =
+    tie.close
+    (tie.spec
+    enum-known-instruction
+    predicate-requires
+    predicate-requires-2
+    join-requires
+    enum-known-instruction-2
+    predicate-requires-3
+    predicate-requires-4
+    add-predicate
+    predicate-requires-5
+    join-requires-2
+    enum-known-instruction-3
+    predicate-requires-6
+    predicate-requires-7
+    scalar-requires
+    predicate-requires-8
+    join-requires-3
+    enum-known-instruction-4
+    vector-requires
+    four-requires
+    join-requires-4
+    enum-known-instruction-5
+    vector-requires-2
+    four-requires-2
+    join-requires-5
+    enum-known-instruction-6
+    vector-requires-3
+    vector-requires-4
+    join-requires-6
+    returns
+    returns-2
+    returns-3
+    returns-4
+    returns-5
+    returns-6)
