@@ -29,7 +29,6 @@ fn main() {
     println!("cargo::rustc-env=GIGHULL_ARCHIVE={}", archive.display());
     println!("cargo::rustc-link-search=native={}", folder.display());
     println!("cargo::rustc-link-lib=static=gighull");
-    not_yet(&archive);
 }
 
 /// An archive that somebody named.
@@ -120,26 +119,4 @@ fn newest(path: &Path) -> SystemTime {
         }
     }
     newest
-}
-
-/// SCAFFOLD, to go when the archive always has them: functions of the header
-/// that are being proved. A cfg for each that the archive has.
-fn not_yet(archive: &Path) {
-    let output = Command::new("nm")
-        .arg("--defined-only")
-        .arg(archive)
-        .output()
-        .expect("nm is on the path");
-    let symbols = String::from_utf8_lossy(&output.stdout).into_owned();
-    for name in ["run", "conflict", "permitted"] {
-        println!("cargo::rustc-check-cfg=cfg(has_{name})");
-        if symbols
-            .lines()
-            .any(|line| line.ends_with(&format!(" T gighull_{name}")))
-        {
-            println!("cargo::rustc-cfg=has_{name}");
-        } else {
-            println!("cargo::warning=gighull_{name} is not in the archive yet");
-        }
-    }
 }

@@ -7,7 +7,8 @@
 //! ```
 //!
 //! Words are hex, a file is its length and, behind each `@`, a place and the
-//! bytes from there in hex, zero elsewhere; `flags` names those that are open.
+//! bytes from there in hex, zero elsewhere; in a list `0*256` is 256 zeros;
+//! `flags` names those that are open.
 
 use std::fmt::{self, Write};
 
@@ -289,12 +290,22 @@ fn shown_file(bytes: &[u8]) -> String {
 }
 
 fn decimals(numbers: &[u32]) -> String {
-    let words: Vec<String> = numbers.iter().map(u32::to_string).collect();
-    words.join(",")
+    listed(numbers, |number| number.to_string())
 }
 
 fn hexes(numbers: &[u32]) -> String {
-    let words: Vec<String> = numbers.iter().map(|n| format!("{n:x}")).collect();
+    listed(numbers, |number| format!("{number:x}"))
+}
+
+/// A number that comes more often in a row is shown once, with how often.
+fn listed(numbers: &[u32], shown: fn(u32) -> String) -> String {
+    let words: Vec<String> = numbers
+        .chunk_by(|a, b| a == b)
+        .flat_map(|row| match row.len() {
+            0..=4 => vec![shown(row[0]); row.len()],
+            count => vec![format!("{}*{count}", shown(row[0]))],
+        })
+        .collect();
     words.join(",")
 }
 
@@ -339,9 +350,15 @@ impl<'a> Given<'a> {
         if text.is_empty() {
             return Ok(Vec::new());
         }
-        text.split(',')
-            .map(|item| parse(item).ok_or_else(|| format!("{item:?} in {name}= is not a number")))
-            .collect()
+        let mut list = Vec::new();
+        for item in text.split(',') {
+            let (number, count) = item.split_once('*').unwrap_or((item, "1"));
+            let (Some(number), Ok(count @ ..=LONGEST_FILE)) = (parse(number), count.parse()) else {
+                return Err(format!("{item:?} in {name}= is not a number"));
+            };
+            list.resize(list.len() + count, number);
+        }
+        Ok(list)
     }
 
     fn setting(&mut self) -> Result<Setting, String> {

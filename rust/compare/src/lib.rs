@@ -15,17 +15,3 @@ pub mod draw;
 pub mod progress;
 pub mod shrink;
 pub mod sweep;
-
-use gighull::ffi;
-
-/// SCAFFOLD, to go when the archive always has them: why a kind of case cannot
-/// be put to the library.
-pub fn missing(kind: case::Kind) -> Option<&'static str> {
-    let (has, name) = match kind {
-        case::Kind::Run => (ffi::HAS_RUN, "gighull_run"),
-        case::Kind::Conflict => (ffi::HAS_CONFLICT, "gighull_conflict"),
-        case::Kind::Permitted => (ffi::HAS_PERMITTED, "gighull_permitted"),
-        _ => return None,
-    };
-    (!has).then_some(name)
-}

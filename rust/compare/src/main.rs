@@ -25,7 +25,7 @@ use compare::campaign::{Found, campaign};
 use compare::case::{Case, Kind};
 use compare::check::check;
 use compare::draw::ALLOWED_FEATURES;
-use compare::{missing, sweep};
+use compare::sweep;
 use gighull::ffi;
 use reference::expand::hash;
 use reference::instruction::Form;
@@ -171,11 +171,6 @@ fn found(command: &str, found: &Found) -> Problem {
 
 fn cases(kind: Kind, options: &Options) -> Result<(), Problem> {
     let name = kind.name();
-    if let Some(function) = missing(kind) {
-        return say(&format!(
-            "{name}: NOT COMPARED, {function} is not in the archive yet"
-        ));
-    }
     let Options {
         seed,
         count,
@@ -270,9 +265,6 @@ fn gate(options: &Options) -> Result<(), Problem> {
 
 fn replay(text: &str) -> Result<(), Problem> {
     let case = Case::parse(text)?;
-    if let Some(function) = missing(case.kind()) {
-        return Err(format!("{function} is not in the archive yet").into());
-    }
     match check(&case) {
         Ok(number) => say(&format!(
             "{}: no difference, both answer {number}",
