@@ -9,7 +9,7 @@ use reference::instruction::Form;
 use reference::layout::form_by_fixed_bits;
 
 use crate::case::{Case, Kind};
-use crate::check::check;
+use crate::check::{Agreed, check};
 use crate::draw::{draw, random_of};
 use crate::progress::Progress;
 use crate::shrink::shrink;
@@ -18,13 +18,17 @@ use crate::shrink::shrink;
 #[derive(Clone, Debug, Default)]
 pub struct Tally {
     pub answers: [u64; 10],
+    /// Of the answers 0, those with a yes or with bytes.
+    pub yes: u64,
     /// Of the steps that were done, the form.
     pub forms: [u64; 6],
 }
 
 impl Tally {
-    fn add(&mut self, case: &Case, number: u32) {
+    fn add(&mut self, case: &Case, agreed: Agreed) {
+        let Agreed { number, yes } = agreed;
         self.answers[number as usize] += 1;
+        self.yes += u64::from(yes);
         if let Case::Step { word, .. } = case
             && number == 0
             && let Some(form) = form_by_fixed_bits(*word)
@@ -40,6 +44,7 @@ impl Tally {
         for (sum, count) in self.forms.iter_mut().zip(other.forms) {
             *sum += count;
         }
+        self.yes += other.yes;
     }
 
     /// `0: 5, 3: 7`, then the forms if there are any.
@@ -49,6 +54,9 @@ impl Tally {
             .map(|number| format!("{number}: {}", self.answers[number]))
             .collect();
         let mut text = format!("answers {}", answers.join(", "));
+        if self.yes > 0 {
+            text += &format!("; with a yes or bytes {}", self.yes);
+        }
         if self.forms != [0; 6] {
             let forms: Vec<String> = Form::ALL
                 .iter()
@@ -105,7 +113,7 @@ pub fn campaign(kind: Kind, seed: u64, count: u64, threads: usize) -> Result<Tal
             for index in from..to {
                 let case = draw(kind, &mut random_of(seed, kind, index));
                 match check(&case) {
-                    Ok(number) => own.add(&case, number),
+                    Ok(agreed) => own.add(&case, agreed),
                     Err(difference) => {
                         stop.store(true, Ordering::Relaxed);
                         let mut found = found.lock().unwrap();

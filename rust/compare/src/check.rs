@@ -15,9 +15,20 @@ use reference::setting::{Setting, vl_is_allowed};
 
 use crate::case::{Case, Request};
 
-/// The number that both answer (for a register's bytes and for lines, 0), or
-/// what is different, for people.
-pub type Checked = Result<u32, String>;
+/// What both answer: a number (for a register's bytes and for lines, 0), and
+/// whether it comes with a yes or with bytes.
+#[derive(Clone, Copy, Debug, PartialEq, Eq)]
+pub struct Agreed {
+    pub number: u32,
+    pub yes: bool,
+}
+
+/// What both answer, or what is different, for people.
+pub type Checked = Result<Agreed, String>;
+
+fn agreed(number: u32) -> Checked {
+    Ok(Agreed { number, yes: false })
+}
 
 /// A panic on either side is a difference too.
 pub fn check(case: &Case) -> Checked {
@@ -212,7 +223,7 @@ fn step(setting: Setting, word: u32, machine: &Machine) -> Checked {
     );
     same("answer", number, found)?;
     lent.same_as(&expected)?;
-    Ok(number)
+    agreed(number)
 }
 
 fn run(setting: Setting, words: &[u32], machine: &Machine) -> Checked {
@@ -236,7 +247,7 @@ fn run(setting: Setting, words: &[u32], machine: &Machine) -> Checked {
         (found, done),
     )?;
     lent.same_as(&expected)?;
-    Ok(found)
+    agreed(found)
 }
 
 /// The library's seven numbers for an instruction of the reference.
@@ -264,7 +275,7 @@ fn decode(setting: Setting, word: u32, room: usize) -> Checked {
     );
     same("answer", number, found)?;
     same("fields, between two marks", expected, fields)?;
-    Ok(number)
+    agreed(number)
 }
 
 /// What the reference writes seven numbers as. It knows forms, not their
@@ -294,7 +305,7 @@ fn encode(setting: Setting, numbers: &[u32]) -> Checked {
         (number, answer.unwrap_or(0)),
         (found, word),
     )?;
-    Ok(number)
+    agreed(number)
 }
 
 fn conflict(setting: Setting, first: u32, second: u32) -> Checked {
@@ -307,7 +318,8 @@ fn conflict(setting: Setting, first: u32, second: u32) -> Checked {
         (number, u32::from(answer.unwrap_or(false))),
         (found, yes),
     )?;
-    Ok(number)
+    let yes = yes == 1;
+    Ok(Agreed { number, yes })
 }
 
 fn order_is_permitted(setting: Setting, words: &[u32], order: &[u32]) -> Checked {
@@ -320,7 +332,8 @@ fn order_is_permitted(setting: Setting, words: &[u32], order: &[u32]) -> Checked
     let mut yes = WORD_MARK;
     let found = ffi::permitted(setting.vl, setting.features, words, order, &mut yes);
     same("answer and yes or no", (number, expected), (found, yes))?;
-    Ok(number)
+    let yes = yes == 1;
+    Ok(Agreed { number, yes })
 }
 
 type Copier = fn(&[u8], u32, u32, &mut [u8]) -> usize;
@@ -362,7 +375,8 @@ fn copied(request: &Request, part: Option<Vec<bool>>, copier: Copier) -> Checked
     let found = copier(&request.file, request.vl, request.register, out.lend());
     same("bytes copied", count, found)?;
     out.same_as(&expected, "buffer ", usize::MAX)?;
-    Ok(0)
+    let yes = count > 0;
+    Ok(Agreed { number: 0, yes })
 }
 
 /// The most bytes of a line.
@@ -384,5 +398,6 @@ fn lines(input: &[u8], room: usize) -> Checked {
         (found, written),
     )?;
     out.same_as(&expected, "text ", usize::MAX)?;
-    Ok(0)
+    let yes = written > 0;
+    Ok(Agreed { number: 0, yes })
 }

@@ -266,9 +266,10 @@ fn gate(options: &Options) -> Result<(), Problem> {
 fn replay(text: &str) -> Result<(), Problem> {
     let case = Case::parse(text)?;
     match check(&case) {
-        Ok(number) => say(&format!(
-            "{}: no difference, both answer {number}",
-            case.kind().name()
+        Ok(agreed) => say(&format!(
+            "{}: no difference, both answer {}",
+            case.kind().name(),
+            agreed.number
         )),
         Err(difference) => {
             say(&format!(

@@ -35,7 +35,7 @@ const FAULTS: &[Fault] = &[
     },
     Fault {
         name: "counter-size",
-        does: "PEXT expands the counter at its own element size (ruled out by name)",
+        does: "the counter is expanded at the instruction's size (ruled out by name)",
         file: "operations.rs",
         sound: "result[(e * size / 8) as usize] = mask[(index * size / 8) as usize];",
         faulty: "let own = 1 << counter.0.trailing_zeros().min(3);
