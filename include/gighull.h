@@ -1,6 +1,14 @@
 /* The proved library's C interface: crates/gighull, built by `rt staticlib gighull` to target/staticlib/libgighull.a.
- * A slice is a pointer and a length (in elements). A pointer of length 0 is not read. Slices that are lent for writing
- * overlap no other argument. A function that answers a number answers document 01's; it asks nothing of its arguments.
+ * A slice is a pointer and a length (in elements). A pointer of length 0 is not read, and may be null. A function that
+ * answers a number answers document 01's.
+ *
+ * The caller owns everything that it passes: a call borrows it, keeps no pointer to it and frees nothing. The library
+ * has no state of its own.
+ *
+ * What a caller must guarantee, since no call can test it: a pointer is aligned for its type and points to as many
+ * elements as its length says (to one, where there is no length), all set, which nobody else writes until the call
+ * returns; what is lent for writing (a pointer that is not const) overlaps no other argument; a `bool` of the record is
+ * true or false. Nothing is asked of the numbers and lengths: each combination of them has an answer.
  */
 #ifndef GIGHULL_H
 #define GIGHULL_H
@@ -29,6 +37,25 @@ struct gighull_scalars {
  * that is not 0, nothing has changed. */
 uint32_t gighull_step(uint8_t *z, size_t z_len, uint8_t *p, size_t p_len, uint8_t *zt, size_t zt_len,
                       struct gighull_scalars *scalars, uint32_t vl, uint32_t features, uint32_t word);
+
+/* A stretch of words on the lent machine, stepped one after the other up to the first that is refused. Answers 0; or 1,
+ * 2 or 8 (more than 256 words), before any word; or 3 to 7, for the word that was refused. `*done` is set to how many
+ * words were done: all where the answer is 0, none where it is 1, 2 or 8, else as many as stand before the refused one.
+ * What those words did to the files and the record stays, and nothing else has changed. */
+uint32_t gighull_run(uint8_t *z, size_t z_len, uint8_t *p, size_t p_len, uint8_t *zt, size_t zt_len,
+                     struct gighull_scalars *scalars, uint32_t vl, uint32_t features, const uint32_t *words,
+                     size_t words_len, size_t *done);
+
+/* Whether two words conflict: one of them writes a register that the other reads or writes. Answers 0, 1 or 3 (of the
+ * first word before the second). `*conflict` is set to 1 for yes, and to 0 for no and where the answer is not 0. */
+uint32_t gighull_conflict(uint32_t vl, uint32_t features, uint32_t first, uint32_t second, uint32_t *conflict);
+
+/* Whether `order` lists each position of the stretch `words` (from 0) once, with every two words that conflict in the
+ * order that they had. Then a run of the words in that order, if the run of the stretch is accepted throughout, ends
+ * alike. Answers 0, 1, 8 or 3, in this order. `*permitted` is set to 1 for yes, and to 0 for no (also for an order of
+ * another length) and where the answer is not 0. */
+uint32_t gighull_permitted(uint32_t vl, uint32_t features, const uint32_t *words, size_t words_len,
+                           const uint32_t *order, size_t order_len, uint32_t *permitted);
 
 /* What a word is read as. Answers 0, 1 or 3; where it is 0, `fields` holds seven numbers:
  *
