@@ -6,9 +6,10 @@
 //! that this ends.
 
 use reference::machine::{Flags, Machine, P_FILE_BYTES, Z_FILE_BYTES, ZT0_FILE_BYTES};
-use reference::setting::Setting;
+use reference::setting::{Setting, VECTOR_LENGTHS};
 
 use crate::case::Case;
+use crate::draw::ALLOWED_FEATURES;
 
 pub fn shrink(case: &Case, differs: &dyn Fn(&Case) -> bool) -> Case {
     let mut shrinker = Shrinker {
@@ -144,6 +145,16 @@ impl Shrinker<'_> {
                 || self.attempt(|case| setting_of(case).unwrap().features = features)
             {
                 break;
+            }
+        }
+        // Of numbers that are not allowed, as few bits as may be.
+        for bit in (0..32).rev() {
+            if vl_of(&mut self.case).is_some_and(|vl| !VECTOR_LENGTHS.contains(vl)) {
+                self.attempt(|case| *vl_of(case).unwrap() &= !(1 << bit));
+            }
+            let features = setting_of(&mut self.case).map(|setting| setting.features);
+            if features.is_some_and(|features| !ALLOWED_FEATURES.contains(&features)) {
+                self.attempt(|case| setting_of(case).unwrap().features &= !(1 << bit));
             }
         }
     }
