@@ -27,6 +27,7 @@ fn main() {
     let archive = folder.join(ARCHIVE);
     println!("cargo::rerun-if-changed={}", archive.display());
     println!("cargo::rustc-env=GIGHULL_ARCHIVE={}", archive.display());
+    println!("cargo::rustc-env=GIGHULL_ARCHIVE_HASH={}", hash(&archive));
     println!("cargo::rustc-link-search=native={}", folder.display());
     println!("cargo::rustc-link-lib=static=gighull");
 }
@@ -104,6 +105,15 @@ fn sources(root: &Path) -> Vec<PathBuf> {
         }
     }
     sources
+}
+
+/// FNV-1a of the archive's bytes, for figures to name it by.
+fn hash(archive: &Path) -> String {
+    let bytes = fs::read(archive).unwrap_or_else(|error| panic!("{}: {error}", archive.display()));
+    let hash = bytes.iter().fold(0xcbf2_9ce4_8422_2325_u64, |hash, &byte| {
+        (hash ^ u64::from(byte)).wrapping_mul(0x0000_0100_0000_01b3)
+    });
+    format!("{hash:016x}")
 }
 
 fn changed(path: &Path) -> Option<SystemTime> {

@@ -27,7 +27,6 @@ use compare::check::check;
 use compare::draw::ALLOWED_FEATURES;
 use compare::sweep;
 use gighull::ffi;
-use reference::expand::hash;
 use reference::instruction::Form;
 
 const USAGE: &str = "usage: compare all|KIND|sweep-decode|sweep-encode|near|gate [--seed S] \
@@ -149,12 +148,10 @@ impl Options {
 
 /// Which archive this is linked with, so that figures can name it.
 fn say_archive() -> Result<(), Problem> {
-    let bytes = std::fs::read(ffi::ARCHIVE)?;
     say(&format!(
-        "library: {} ({} bytes, FNV-1a {:016x})",
+        "library: {} (FNV-1a {})",
         ffi::ARCHIVE,
-        bytes.len(),
-        hash(&bytes)
+        ffi::ARCHIVE_HASH
     ))
 }
 

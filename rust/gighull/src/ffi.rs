@@ -29,6 +29,9 @@ pub const FIELDS: usize = 7;
 /// The archive that this crate is linked with.
 pub const ARCHIVE: &str = env!("GIGHULL_ARCHIVE");
 
+/// FNV-1a of its bytes, in hex, when it was linked.
+pub const ARCHIVE_HASH: &str = env!("GIGHULL_ARCHIVE_HASH");
+
 /// The functions declared here, by their C names.
 pub const FUNCTIONS: [&str; 9] = [
     "gighull_step",
