@@ -27,9 +27,9 @@ fn main() {
     let archive = folder.join(ARCHIVE);
     println!("cargo::rerun-if-changed={}", archive.display());
     println!("cargo::rustc-env=GIGHULL_ARCHIVE={}", archive.display());
+    println!("cargo::rustc-env=GIGHULL_ARCHIVE_HASH={}", hash(&archive));
     println!("cargo::rustc-link-search=native={}", folder.display());
     println!("cargo::rustc-link-lib=static=gighull");
-    not_yet(&archive);
 }
 
 /// An archive that somebody named.
@@ -107,6 +107,15 @@ fn sources(root: &Path) -> Vec<PathBuf> {
     sources
 }
 
+/// FNV-1a of the archive's bytes, for figures to name it by.
+fn hash(archive: &Path) -> String {
+    let bytes = fs::read(archive).unwrap_or_else(|error| panic!("{}: {error}", archive.display()));
+    let hash = bytes.iter().fold(0xcbf2_9ce4_8422_2325_u64, |hash, &byte| {
+        (hash ^ u64::from(byte)).wrapping_mul(0x0000_0100_0000_01b3)
+    });
+    format!("{hash:016x}")
+}
+
 fn changed(path: &Path) -> Option<SystemTime> {
     fs::metadata(path).and_then(|data| data.modified()).ok()
 }
@@ -120,26 +129,4 @@ fn newest(path: &Path) -> SystemTime {
         }
     }
     newest
-}
-
-/// SCAFFOLD, to go when the archive always has them: functions of the header
-/// that are being proved. A cfg for each that the archive has.
-fn not_yet(archive: &Path) {
-    let output = Command::new("nm")
-        .arg("--defined-only")
-        .arg(archive)
-        .output()
-        .expect("nm is on the path");
-    let symbols = String::from_utf8_lossy(&output.stdout).into_owned();
-    for name in ["run", "conflict", "permitted"] {
-        println!("cargo::rustc-check-cfg=cfg(has_{name})");
-        if symbols
-            .lines()
-            .any(|line| line.ends_with(&format!(" T gighull_{name}")))
-        {
-            println!("cargo::rustc-cfg=has_{name}");
-        } else {
-            println!("cargo::warning=gighull_{name} is not in the archive yet");
-        }
-    }
 }

@@ -29,6 +29,9 @@ pub const FIELDS: usize = 7;
 /// The archive that this crate is linked with.
 pub const ARCHIVE: &str = env!("GIGHULL_ARCHIVE");
 
+/// FNV-1a of its bytes, in hex, when it was linked.
+pub const ARCHIVE_HASH: &str = env!("GIGHULL_ARCHIVE_HASH");
+
 /// The functions declared here, by their C names.
 pub const FUNCTIONS: [&str; 9] = [
     "gighull_step",
@@ -41,12 +44,6 @@ pub const FUNCTIONS: [&str; 9] = [
     "gighull_predicate",
     "gighull_lines",
 ];
-
-/// SCAFFOLD, to go with `not_yet` of the build script: whether the archive has
-/// the function already. Calling one that it has not panics.
-pub const HAS_RUN: bool = cfg!(has_run);
-pub const HAS_CONFLICT: bool = cfg!(has_conflict);
-pub const HAS_PERMITTED: bool = cfg!(has_permitted);
 
 /// The header's declarations, one for one.
 mod c {
@@ -66,7 +63,6 @@ mod c {
             features: u32,
             word: u32,
         ) -> u32;
-        #[cfg(has_run)]
         #[allow(clippy::too_many_arguments)]
         pub fn gighull_run(
             z: *mut u8,
@@ -96,7 +92,6 @@ mod c {
             fields_len: usize,
             word: *mut u32,
         ) -> u32;
-        #[cfg(has_conflict)]
         pub fn gighull_conflict(
             vl: u32,
             features: u32,
@@ -104,7 +99,6 @@ mod c {
             second: u32,
             conflict: *mut u32,
         ) -> u32;
-        #[cfg(has_permitted)]
         pub fn gighull_permitted(
             vl: u32,
             features: u32,
@@ -185,7 +179,6 @@ pub fn run(
     words: &[u32],
     done: &mut usize,
 ) -> u32 {
-    #[cfg(has_run)]
     // SAFETY: as for `step`; the words are only read, and `done` is a number
     // that is lent for writing.
     unsafe {
@@ -203,11 +196,6 @@ pub fn run(
             words.len(),
             done,
         )
-    }
-    #[cfg(not(has_run))]
-    {
-        let _ = (z, p, zt, scalars, vl, features, words, done);
-        unimplemented!("gighull_run is not in the archive yet")
     }
 }
 
@@ -233,16 +221,8 @@ pub fn encode(vl: u32, features: u32, fields: &[u32], word: &mut u32) -> u32 {
 /// Whether two words conflict, 1 or 0 in `conflict`, and document 01's number.
 #[inline]
 pub fn conflict(vl: u32, features: u32, first: u32, second: u32, conflict: &mut u32) -> u32 {
-    #[cfg(has_conflict)]
     // SAFETY: the number is lent for writing through the call and is not kept.
-    unsafe {
-        c::gighull_conflict(vl, features, first, second, conflict)
-    }
-    #[cfg(not(has_conflict))]
-    {
-        let _ = (vl, features, first, second, conflict);
-        unimplemented!("gighull_conflict is not in the archive yet")
-    }
+    unsafe { c::gighull_conflict(vl, features, first, second, conflict) }
 }
 
 /// Whether a stretch may be run in an order (the position in `words` of the
@@ -250,7 +230,6 @@ pub fn conflict(vl: u32, features: u32, first: u32, second: u32, conflict: &mut 
 /// number.
 #[inline]
 pub fn permitted(vl: u32, features: u32, words: &[u32], order: &[u32], permitted: &mut u32) -> u32 {
-    #[cfg(has_permitted)]
     // SAFETY: both slices are only read, the number is lent for writing, all
     // live through the call and none is kept.
     unsafe {
@@ -263,11 +242,6 @@ pub fn permitted(vl: u32, features: u32, words: &[u32], order: &[u32], permitted
             order.len(),
             permitted,
         )
-    }
-    #[cfg(not(has_permitted))]
-    {
-        let _ = (vl, features, words, order, permitted);
-        unimplemented!("gighull_permitted is not in the archive yet")
     }
 }
 

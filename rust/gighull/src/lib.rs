@@ -81,7 +81,6 @@ pub fn encode(setting: Setting, instruction: Instruction) -> Answer<u32> {
 /// writes.
 ///
 /// ```
-/// # if !gighull::ffi::HAS_CONFLICT { return } // SCAFFOLD
 /// use gighull::{Refusal, Setting, conflict};
 /// let narrow = 0x45283801; // Z0 to Z1
 /// assert_eq!(conflict(Setting::FULL, narrow, narrow), Ok(true));
@@ -100,7 +99,6 @@ pub fn conflict(setting: Setting, first: u32, second: u32) -> Answer<bool> {
 /// position exactly once is not permitted.
 ///
 /// ```
-/// # if !gighull::ffi::HAS_PERMITTED { return } // SCAFFOLD
 /// use gighull::{Refusal, Setting, permitted};
 /// let words = [0x45283801, 0x45283802, 0x45283823]; // Z0 to Z1, Z0 to Z2, Z1 to Z3
 /// assert_eq!(permitted(Setting::FULL, &words, &[1, 0, 2]), Ok(true));

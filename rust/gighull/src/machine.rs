@@ -127,7 +127,6 @@ impl Machine {
     /// is as the words that were done left it.
     ///
     /// ```
-    /// # if !gighull::ffi::HAS_RUN { return } // SCAFFOLD
     /// use gighull::{Machine, Refusal, Setting, Stopped};
     /// let mut machine = Machine::new();
     /// assert_eq!(machine.run(Setting::FULL, &[0x25207010, 0x45283801]), Ok(2));

@@ -78,7 +78,7 @@ int main(void) {
     fresh();
     step(129, 31, 0);
     printf("step without files answers %" PRIu32 "\n",
-           gighull_step(NULL, 0, NULL, 0, NULL, 0, &scalars, 128, 31, UINT32_C(0x25207010)));
+           gighull_step(z, 0, p, 0, zt, 0, &scalars, 128, 31, UINT32_C(0x25207010)));
 
     uint32_t fields[7] = {9, 9, 9, 9, 9, 9, 9};
     uint32_t answer = gighull_decode(128, 31, UINT32_C(0x25e34c65), fields, 7);
@@ -86,12 +86,12 @@ int main(void) {
     for (int i = 0; i < 7; i++) {
         printf(" %" PRIu32, fields[i]);
     }
-    printf("\ndecode to nowhere answers %" PRIu32 "\n", gighull_decode(128, 31, 0, NULL, 0));
+    printf("\ndecode to nowhere answers %" PRIu32 "\n", gighull_decode(128, 31, 0, fields, 0));
 
     uint32_t word = 9;
     answer = gighull_encode(128, 31, fields, 7, &word);
     printf("encode answers %" PRIu32 ": %08" PRIx32 "\n", answer, word);
-    answer = gighull_encode(128, 31, NULL, 0, &word);
+    answer = gighull_encode(128, 31, fields, 0, &word);
     printf("encode of nothing answers %" PRIu32 ": %08" PRIx32 "\n", answer, word);
 
     uint8_t out[300];
@@ -108,25 +108,20 @@ int main(void) {
     count = gighull_lines(input, sizeof input, out, sizeof out, &written);
     printf("lines answers %zu, %zu: %016" PRIx64 "\n", count, written, hash(out, sizeof out));
 
-#ifdef HAS_RUN
     const uint32_t words[] = {UINT32_C(0x45283801), UINT32_C(0x25207010), UINT32_C(0xc08a9000), 0};
     size_t done = 9;
     fresh();
     answer = gighull_run(z, sizeof z, p, sizeof p, zt, sizeof zt, &scalars, 256, 31, words, 4, &done);
     printf("run answers %" PRIu32 " after %zu", answer, done);
     machine();
-    answer = gighull_run(z, sizeof z, p, sizeof p, zt, sizeof zt, &scalars, 256, 31, NULL, 0, &done);
+    answer = gighull_run(z, sizeof z, p, sizeof p, zt, sizeof zt, &scalars, 256, 31, words, 0, &done);
     printf("run of nothing answers %" PRIu32 " after %zu", answer, done);
     machine();
-#endif
-#ifdef HAS_CONFLICT
     uint32_t yes = 9;
     answer = gighull_conflict(128, 31, UINT32_C(0x45283801), UINT32_C(0x45283822), &yes);
     printf("conflict answers %" PRIu32 ": %" PRIu32 "\n", answer, yes);
     answer = gighull_conflict(128, 31, UINT32_C(0x45283801), UINT32_C(0x45283802), &yes);
     printf("no conflict answers %" PRIu32 ": %" PRIu32 "\n", answer, yes);
-#endif
-#ifdef HAS_PERMITTED
     const uint32_t stretch[] = {UINT32_C(0x45283801), UINT32_C(0x45283802), UINT32_C(0x45283823)};
     const uint32_t good[] = {1, 0, 2}, bad[] = {2, 1, 0};
     uint32_t may = 9;
@@ -134,6 +129,5 @@ int main(void) {
     printf("permitted answers %" PRIu32 ": %" PRIu32 "\n", answer, may);
     answer = gighull_permitted(128, 31, stretch, 3, bad, 3, &may);
     printf("not permitted answers %" PRIu32 ": %" PRIu32 "\n", answer, may);
-#endif
     return 0;
 }

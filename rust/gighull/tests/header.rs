@@ -25,16 +25,6 @@ fn said_by_c() -> String {
         .arg(ffi::ARCHIVE)
         .arg("-o")
         .arg(&binary);
-    // SCAFFOLD
-    for (has, name) in [
-        (ffi::HAS_RUN, "-DHAS_RUN"),
-        (ffi::HAS_CONFLICT, "-DHAS_CONFLICT"),
-        (ffi::HAS_PERMITTED, "-DHAS_PERMITTED"),
-    ] {
-        if has {
-            compiler.arg(name);
-        }
-    }
     let output = compiler.output().expect("a C compiler is there");
     let errors = String::from_utf8_lossy(&output.stderr).into_owned();
     assert!(output.status.success(), "{errors}");
@@ -192,27 +182,21 @@ fn said_by_rust() -> String {
         hash(&out)
     ));
 
-    if ffi::HAS_RUN {
-        let words = [0x4528_3801, 0x2520_7010, 0xc08a_9000, 0];
-        let mut lent = Lent::fresh();
-        say(format!("run {}", lent.run(256, 31, &words)));
-        say(format!("run of nothing {}", lent.run(256, 31, &[])));
-    }
-    if ffi::HAS_CONFLICT {
-        let mut yes = 9;
-        let answer = ffi::conflict(128, 31, 0x4528_3801, 0x4528_3822, &mut yes);
-        say(format!("conflict answers {answer}: {yes}\n"));
-        let answer = ffi::conflict(128, 31, 0x4528_3801, 0x4528_3802, &mut yes);
-        say(format!("no conflict answers {answer}: {yes}\n"));
-    }
-    if ffi::HAS_PERMITTED {
-        let words = [0x4528_3801, 0x4528_3802, 0x4528_3823];
-        let mut may = 9;
-        let answer = ffi::permitted(128, 31, &words, &[1, 0, 2], &mut may);
-        say(format!("permitted answers {answer}: {may}\n"));
-        let answer = ffi::permitted(128, 31, &words, &[2, 1, 0], &mut may);
-        say(format!("not permitted answers {answer}: {may}\n"));
-    }
+    let words = [0x4528_3801, 0x2520_7010, 0xc08a_9000, 0];
+    let mut lent = Lent::fresh();
+    say(format!("run {}", lent.run(256, 31, &words)));
+    say(format!("run of nothing {}", lent.run(256, 31, &[])));
+    let mut yes = 9;
+    let answer = ffi::conflict(128, 31, 0x4528_3801, 0x4528_3822, &mut yes);
+    say(format!("conflict answers {answer}: {yes}\n"));
+    let answer = ffi::conflict(128, 31, 0x4528_3801, 0x4528_3802, &mut yes);
+    say(format!("no conflict answers {answer}: {yes}\n"));
+    let words = [0x4528_3801, 0x4528_3802, 0x4528_3823];
+    let mut may = 9;
+    let answer = ffi::permitted(128, 31, &words, &[1, 0, 2], &mut may);
+    say(format!("permitted answers {answer}: {may}\n"));
+    let answer = ffi::permitted(128, 31, &words, &[2, 1, 0], &mut may);
+    say(format!("not permitted answers {answer}: {may}\n"));
     said
 }
 
@@ -247,6 +231,12 @@ fn c_and_rust_find_the_same() {
         "vector answers 64:",
         "predicate answers 8:",
         "lines answers 13, 60:",
+        "run answers 3 after 3 z",
+        "run of nothing answers 0 after 0 z",
+        "\nconflict answers 0: 1\n",
+        "\nno conflict answers 0: 0\n",
+        "\npermitted answers 0: 1\n",
+        "\nnot permitted answers 0: 0\n",
         "pc 0000000000000004 ",
     ] {
         assert!(c.contains(part), "{part} is not in\n{c}");
@@ -283,17 +273,7 @@ fn in_the_header() -> BTreeSet<String> {
 
 #[test]
 fn the_same_functions_everywhere() {
-    // SCAFFOLD: without those that are not in the archive yet
-    let rust: BTreeSet<String> = ffi::FUNCTIONS
-        .into_iter()
-        .filter(|&name| match name {
-            "gighull_run" => ffi::HAS_RUN,
-            "gighull_conflict" => ffi::HAS_CONFLICT,
-            "gighull_permitted" => ffi::HAS_PERMITTED,
-            _ => true,
-        })
-        .map(str::to_string)
-        .collect();
+    let rust: BTreeSet<String> = ffi::FUNCTIONS.into_iter().map(str::to_string).collect();
     assert_eq!(in_the_archive(), rust);
     assert_eq!(in_the_header(), rust);
 }

@@ -1,0 +1,354 @@
+//! `faults [NAME..]`
+//!
+//! Puts deliberate faults, one at a time, into a copy of the reference below
+//! rust/target/faults, builds `compare` over that copy and the same library,
+//! and runs `compare gate`, which must find each. What it prints as a case must
+//! differ again with the faulty reference and not with the sound one. A copy
+//! without a fault goes first, and must not differ.
+//!
+//! Prints a table in Markdown; status 1 where a fault was not found.
+
+use std::fs;
+use std::io;
+use std::path::{Path, PathBuf};
+use std::process::{Command, ExitCode, Output};
+use std::time::Instant;
+
+use gighull::ffi;
+
+struct Fault {
+    name: &'static str,
+    /// What the faulty reference does.
+    does: &'static str,
+    file: &'static str,
+    sound: &'static str,
+    faulty: &'static str,
+}
+
+const FAULTS: &[Fault] = &[
+    Fault {
+        name: "wrapping-sum",
+        does: "UQRSHRNB's sum wraps at the wide element (ruled out by name)",
+        file: "operations.rs",
+        sound: "let rounded = (x + (1 << (shift - 1))) / (1 << shift);",
+        faulty: "let rounded = (x + (1 << (shift - 1))) % (1 << wide) / (1 << shift);",
+    },
+    Fault {
+        name: "counter-size",
+        does: "the counter is expanded at the instruction's size (ruled out by name)",
+        file: "operations.rs",
+        sound: "result[(e * size / 8) as usize] = mask[(index * size / 8) as usize];",
+        faulty: "let own = 1 << counter.0.trailing_zeros().min(3);
+        result[(e * size / 8) as usize] = mask.get((index * own) as usize) == Some(&true);",
+    },
+    Fault {
+        name: "write-then-read",
+        does: "LUTI4C writes a destination before it reads the next indexes (ruled out by name)",
+        file: "step.rs",
+        sound: "let results = luti4(&machine.vector(zn, vl), &machine.table(), size, i1, vl)?;
+            spaced(zd, 1, results)",
+        faulty: "let mut machine = machine.clone();
+            let mut results = Vec::new();
+            for r in 0..4 {
+                let all = luti4(&machine.vector(zn, vl), &machine.table(), size, i1, vl)?;
+                machine.set_vector(zd + r, &all[r as usize]);
+                results.push(all[r as usize].clone());
+            }
+            spaced(zd, 1, results)",
+    },
+    Fault {
+        name: "looser-match",
+        does: "LUTI4S is also read with sizes 10 and 11 (a looser match, ruled out by name)",
+        file: "layout.rs",
+        sound: "Form::Luti4s => word & 0x3000 == 0x1000,",
+        faulty: "Form::Luti4s => word & 0x3000 != 0,",
+    },
+    Fault {
+        name: "pair-stays",
+        does: "PEXT2 with Pd 15 writes P15 twice, and not P0",
+        file: "step.rs",
+        sound: "Written::Predicate((pd + 1) % 16, second)",
+        faulty: "Written::Predicate((pd + 1).min(15), second)",
+    },
+    Fault {
+        name: "index-of-128",
+        does: "DUP's index is taken modulo 128/size at every VL",
+        file: "operations.rs",
+        sound: "% u128::from(elements)",
+        faulty: "% u128::from(128 / size)",
+    },
+    Fault {
+        name: "upper-bits",
+        does: "the bits of a Z slot above VL become 0",
+        file: "machine.rs",
+        sound: "bits::write(&mut self.z[slot..slot + Z_SLOT_BYTES], value);",
+        faulty: "self.z[slot..slot + Z_SLOT_BYTES].fill(0);
+        bits::write(&mut self.z[slot..slot + Z_SLOT_BYTES], value);",
+    },
+    Fault {
+        name: "pc-stops",
+        does: "PC does not wrap, but stops at 2^64 - 1",
+        file: "step.rs",
+        sound: "machine.pc.wrapping_add(4)",
+        faulty: "machine.pc.saturating_add(4)",
+    },
+    Fault {
+        name: "table-first",
+        does: "LUTI4 asks for T before S",
+        file: "access.rs",
+        sound: "if needed.s && !flags.s {",
+        faulty: "if needed.t && !flags.t {
+        return Err(Refusal::TableClosed);
+    }
+    if needed.s && !flags.s {",
+    },
+    Fault {
+        name: "feature-before-range",
+        does: "encode answers 3 before 9",
+        file: "encode.rs",
+        sound: "if !in_range(instruction) {",
+        faulty: "if !layout::has_features(instruction.form(), setting) {
+        return Err(Refusal::Undefined);
+    }
+    if !in_range(instruction) {",
+    },
+    Fault {
+        name: "feature-cast",
+        does: "a feature number loses its bits from 8 up, so that 287 is 31",
+        file: "setting.rs",
+        sound: "if features > ALL_FEATURES {",
+        faulty: "let features = features % 256;
+    if features > ALL_FEATURES {",
+    },
+    Fault {
+        name: "half-a-register",
+        does: "of a Z register at VL 2048 only 128 bytes are read",
+        file: "machine.rs",
+        sound: "bits::read(&self.z[slot..slot + Z_SLOT_BYTES], vl as usize)",
+        faulty: "bits::read(&self.z[slot..slot + Z_SLOT_BYTES], (vl as usize).min(1024))",
+    },
+    Fault {
+        name: "one-byte-over",
+        does: "the lister forgets a single byte left over",
+        file: "lister.rs",
+        sound: "if left_over > 0 {",
+        faulty: "if left_over > 1 {",
+    },
+    Fault {
+        name: "longest-255",
+        does: "a run refuses 256 words",
+        file: "run.rs",
+        sound: "if words.len() > LONGEST_STRETCH {",
+        faulty: "if words.len() >= LONGEST_STRETCH {",
+    },
+    Fault {
+        name: "refused-is-done",
+        does: "a run counts the refused word as done",
+        file: "run.rs",
+        sound: "let refusal = Some(refusal);",
+        faulty: "let (refusal, done) = (Some(refusal), done + 1);",
+    },
+    Fault {
+        name: "one-of-the-pair",
+        does: "conflict forgets the second register that PEXT2 writes",
+        file: "touch.rs",
+        sound: "writes: vec![P(pd), P((pd + 1) % 16)],",
+        faulty: "writes: vec![P(pd)],",
+    },
+    Fault {
+        name: "readers-conflict",
+        does: "two words that read ZT0 conflict",
+        file: "touch.rs",
+        sound: "meets(a, b) || meets(b, a)",
+        faulty: "meets(a, b)
+        || meets(b, a)
+        || a.reads.contains(&Register::Zt0) && b.reads.contains(&Register::Zt0)",
+    },
+    Fault {
+        name: "copies-change-places",
+        does: "an order may let two copies of a word change places",
+        file: "rearrangement.rs",
+        sound: "if earlier < later && touches_conflict",
+        faulty: "if words[earlier] != words[later]
+                && earlier < later
+                && touches_conflict",
+    },
+];
+
+fn main() -> ExitCode {
+    let names: Vec<String> = std::env::args().skip(1).collect();
+    if let Some(name) = names
+        .iter()
+        .find(|&name| FAULTS.iter().all(|fault| fault.name != name))
+    {
+        eprintln!("faults: {name} is none; there are");
+        for fault in FAULTS {
+            eprintln!("  {:<22} {}", fault.name, fault.does);
+        }
+        return ExitCode::from(2);
+    }
+    match all(&names) {
+        Ok(0) => ExitCode::SUCCESS,
+        Ok(missed) => {
+            eprintln!("faults: {missed} not found");
+            ExitCode::FAILURE
+        }
+        Err(error) => {
+            eprintln!("faults: {error}");
+            ExitCode::from(2)
+        }
+    }
+}
+
+/// How many faults were not found.
+fn all(names: &[String]) -> io::Result<usize> {
+    let bench = Bench::new()?;
+    let from = Instant::now();
+    eprintln!("faults: no fault");
+    bench.build()?;
+    let gate = bench.compare(&["gate"])?;
+    if !gate.status.success() {
+        let text = String::from_utf8_lossy(&gate.stdout).into_owned();
+        return Err(io::Error::other(format!(
+            "without a fault there is a difference:\n{text}"
+        )));
+    }
+    println!("| Fault | The faulty reference | Found by | Difference | Smallest case |");
+    println!("|---|---|---|---|---|");
+    let (mut found, mut missed) = (0, 0);
+    for fault in FAULTS {
+        if !names.is_empty() && names.iter().all(|name| fault.name != name) {
+            continue;
+        }
+        let seconds = from.elapsed().as_secs();
+        eprintln!("faults: {} ({seconds} s so far)", fault.name);
+        let row = bench.with(fault, |bench| bench.look_for_it())?;
+        match row {
+            Ok(row) => {
+                found += 1;
+                println!("| {} | {} | {row} |", fault.name, fault.does);
+            }
+            Err(why) => {
+                missed += 1;
+                println!("| {} | {} | NOT FOUND: {why} | | |", fault.name, fault.does);
+            }
+        }
+    }
+    println!("\n{found} faults found, {missed} not found.");
+    Ok(missed)
+}
+
+/// The copy: reference, gighull and compare, in the places that they have to
+/// each other in the repository.
+struct Bench {
+    folder: PathBuf,
+    binary: PathBuf,
+}
+
+impl Bench {
+    fn new() -> io::Result<Bench> {
+        let root = Path::new(env!("CARGO_MANIFEST_DIR")).join("../..");
+        let folder = root.join("rust/target/faults");
+        for part in ["reference", "rust/gighull", "rust/compare"] {
+            let copy = folder.join(part);
+            if copy.exists() {
+                fs::remove_dir_all(&copy)?;
+            }
+            copy_folder(&root.join(part), &copy)?;
+        }
+        let workspace = "[workspace]\nmembers = [\"compare\", \"gighull\"]\nresolver = \"3\"\n";
+        fs::write(folder.join("rust/Cargo.toml"), workspace)?;
+        let folder = folder.canonicalize()?;
+        let binary = folder.join("target/release/compare");
+        Ok(Bench { folder, binary })
+    }
+
+    fn build(&self) -> io::Result<()> {
+        let library = Path::new(ffi::ARCHIVE).parent().expect("it is in a folder");
+        let output = Command::new(std::env::var_os("CARGO").unwrap_or("cargo".into()))
+            .args(["build", "--release", "--offline", "--quiet"])
+            .args(["--package", "compare", "--bin", "compare"])
+            .current_dir(self.folder.join("rust"))
+            .env("CARGO_TARGET_DIR", self.folder.join("target"))
+            .env("GIGHULL_STATICLIB", library)
+            .output()?;
+        if output.status.success() {
+            return Ok(());
+        }
+        let errors = String::from_utf8_lossy(&output.stderr).into_owned();
+        Err(io::Error::other(format!(
+            "the copy does not build\n{errors}"
+        )))
+    }
+
+    fn compare(&self, arguments: &[&str]) -> io::Result<Output> {
+        Command::new(&self.binary).args(arguments).output()
+    }
+
+    /// Does something while the fault is in the copy.
+    fn with<T>(&self, fault: &Fault, act: impl FnOnce(&Bench) -> io::Result<T>) -> io::Result<T> {
+        let path = self.folder.join("reference/src").join(fault.file);
+        let sound = fs::read_to_string(&path)?;
+        if sound.matches(fault.sound).count() != 1 {
+            return Err(io::Error::other(format!(
+                "{}: {:?} is not once in {}",
+                fault.name, fault.sound, fault.file
+            )));
+        }
+        fs::write(&path, sound.replace(fault.sound, fault.faulty))?;
+        let done = self.build().and_then(|()| act(self));
+        fs::write(&path, sound)?;
+        done
+    }
+
+    /// The table's last three cells, or why it is not found.
+    fn look_for_it(&self) -> io::Result<Result<String, String>> {
+        let gate = self.compare(&["gate"])?;
+        let text = String::from_utf8_lossy(&gate.stdout).into_owned();
+        if gate.status.code() != Some(1) {
+            return Ok(Err(format!("compare gate ended with {}", gate.status)));
+        }
+        let lines: Vec<&str> = text.lines().collect();
+        let at = lines.iter().position(|line| line.ends_with(": DIFFERENCE"));
+        let Some([by, _, _, difference, _, replay]) = at.and_then(|at| lines.get(at..at + 6))
+        else {
+            return Ok(Err(format!("unexpected text {text:?}")));
+        };
+        let case = replay
+            .trim()
+            .trim_start_matches("compare replay '")
+            .trim_end_matches('\'');
+        let again = self.compare(&["replay", case])?;
+        if again.status.code() != Some(1) {
+            return Ok(Err(format!("replayed, it does not differ: {case}")));
+        }
+        let sound = std::env::current_exe()?.with_file_name("compare");
+        let sound = Command::new(sound).args(["replay", case]).output()?;
+        if !sound.status.success() {
+            return Ok(Err(format!("the sound reference differs too: {case}")));
+        }
+        Ok(Ok(format!(
+            "{} | {} | `{case}`",
+            by.trim_end_matches(": DIFFERENCE"),
+            difference.trim()
+        )))
+    }
+}
+
+/// Without what was built.
+fn copy_folder(from: &Path, to: &Path) -> io::Result<()> {
+    fs::create_dir_all(to)?;
+    for entry in fs::read_dir(from)? {
+        let entry = entry?;
+        let name = entry.file_name();
+        if name == "target" {
+            continue;
+        }
+        if entry.file_type()?.is_dir() {
+            copy_folder(&entry.path(), &to.join(name))?;
+        } else {
+            fs::copy(entry.path(), to.join(name))?;
+        }
+    }
+    Ok(())
+}

@@ -1,0 +1,146 @@
+//! Many cases on some threads.
+
+use std::sync::Mutex;
+use std::sync::atomic::{AtomicBool, AtomicU64, Ordering};
+use std::thread;
+use std::time::Duration;
+
+use reference::instruction::Form;
+use reference::layout::form_by_fixed_bits;
+
+use crate::case::{Case, Kind};
+use crate::check::{Agreed, check};
+use crate::draw::{draw, random_of};
+use crate::progress::Progress;
+use crate::shrink::shrink;
+
+/// How many cases there were, by what both answered.
+#[derive(Clone, Debug, Default)]
+pub struct Tally {
+    pub answers: [u64; 10],
+    /// Of the answers 0, those with a yes or with bytes.
+    pub yes: u64,
+    /// Of the steps that were done, the form.
+    pub forms: [u64; 6],
+}
+
+impl Tally {
+    fn add(&mut self, case: &Case, agreed: Agreed) {
+        let Agreed { number, yes } = agreed;
+        self.answers[number as usize] += 1;
+        self.yes += u64::from(yes);
+        if let Case::Step { word, .. } = case
+            && number == 0
+            && let Some(form) = form_by_fixed_bits(*word)
+        {
+            self.forms[form.number() as usize - 1] += 1;
+        }
+    }
+
+    fn join(&mut self, other: &Tally) {
+        for (sum, count) in self.answers.iter_mut().zip(other.answers) {
+            *sum += count;
+        }
+        for (sum, count) in self.forms.iter_mut().zip(other.forms) {
+            *sum += count;
+        }
+        self.yes += other.yes;
+    }
+
+    /// `0: 5, 3: 7`, then the forms if there are any.
+    pub fn shown(&self) -> String {
+        let answers: Vec<String> = (0..10)
+            .filter(|&number| self.answers[number] > 0)
+            .map(|number| format!("{number}: {}", self.answers[number]))
+            .collect();
+        let mut text = format!("answers {}", answers.join(", "));
+        if self.yes > 0 {
+            text += &format!("; with a yes or bytes {}", self.yes);
+        }
+        if self.forms != [0; 6] {
+            let forms: Vec<String> = Form::ALL
+                .iter()
+                .zip(self.forms)
+                .map(|(form, count)| format!("{} {count}", form.name()))
+                .collect();
+            text += &format!("; done {}", forms.join(", "));
+        }
+        text
+    }
+}
+
+/// A case on which the two differ, and what is left of it.
+#[derive(Debug)]
+pub struct Found {
+    pub index: u64,
+    pub difference: String,
+    pub smallest: Case,
+    pub smallest_difference: String,
+}
+
+impl Found {
+    /// The case made smaller.
+    pub fn of(index: u64, case: &Case, difference: String) -> Found {
+        let smallest = shrink(case, &|case| check(case).is_err());
+        let smallest_difference = check(&smallest).err();
+        Found {
+            index,
+            difference,
+            smallest,
+            smallest_difference: smallest_difference.unwrap_or_else(|| "none any more".into()),
+        }
+    }
+}
+
+/// How many cases a thread takes at a time.
+const CHUNK: u64 = 64;
+
+pub fn campaign(kind: Kind, seed: u64, count: u64, threads: usize) -> Result<Tally, Box<Found>> {
+    let next = AtomicU64::new(0);
+    let done = AtomicU64::new(0);
+    let working = AtomicU64::new(threads as u64);
+    let stop = AtomicBool::new(false);
+    let found: Mutex<Option<(u64, Case, String)>> = Mutex::new(None);
+    let tally = Mutex::new(Tally::default());
+    let work = || {
+        let mut own = Tally::default();
+        while !stop.load(Ordering::Relaxed) {
+            let from = next.fetch_add(CHUNK, Ordering::Relaxed);
+            if from >= count {
+                break;
+            }
+            let to = (from + CHUNK).min(count);
+            for index in from..to {
+                let case = draw(kind, &mut random_of(seed, kind, index));
+                match check(&case) {
+                    Ok(agreed) => own.add(&case, agreed),
+                    Err(difference) => {
+                        stop.store(true, Ordering::Relaxed);
+                        let mut found = found.lock().unwrap();
+                        if found.as_ref().is_none_or(|(other, ..)| index < *other) {
+                            *found = Some((index, case, difference));
+                        }
+                        break;
+                    }
+                }
+            }
+            done.fetch_add(to - from, Ordering::Relaxed);
+        }
+        tally.lock().unwrap().join(&own);
+        working.fetch_sub(1, Ordering::Relaxed);
+    };
+    thread::scope(|scope| {
+        for _ in 0..threads {
+            scope.spawn(work);
+        }
+        let mut progress = Progress::new(kind.name(), count);
+        while working.load(Ordering::Relaxed) > 0 {
+            thread::sleep(Duration::from_millis(5));
+            progress.at(done.load(Ordering::Relaxed));
+        }
+    });
+    match found.into_inner().unwrap() {
+        None => Ok(tally.into_inner().unwrap()),
+        Some((index, case, difference)) => Err(Box::new(Found::of(index, &case, difference))),
+    }
+}

@@ -1,0 +1,311 @@
+//! All words, and all fields: both programs on every one of them.
+
+use std::sync::Mutex;
+use std::sync::atomic::{AtomicBool, AtomicU64, Ordering};
+use std::thread;
+use std::time::Duration;
+
+use gighull::ffi;
+use reference::instruction::Form;
+use reference::layout::{LAYOUTS, form_by_fixed_bits};
+use reference::refusal::number_of;
+use reference::samples::spread;
+use reference::setting::{Setting, VECTOR_LENGTHS};
+
+use crate::campaign::Found;
+use crate::case::Case;
+use crate::check::{numbers, reference_encode};
+use crate::draw::ALLOWED_FEATURES;
+use crate::progress::Progress;
+
+/// How many words are read as each form under each allowed feature number.
+pub type Accepted = [[u64; 6]; ALLOWED_FEATURES.len()];
+
+const MARK: [u32; ffi::FIELDS] = [0xa5a5_a5a5; ffi::FIELDS];
+
+/// Every word from `from` to `to`, under each allowed feature number. The
+/// vector length changes from chunk to chunk.
+pub fn decode(from: u32, to: u32, threads: usize) -> Result<Accepted, Box<Found>> {
+    const CHUNK: u64 = 1 << 16;
+    let first = u64::from(from) / CHUNK;
+    let chunks = u64::from(to) / CHUNK - first + 1;
+    let accepted = Mutex::new(Accepted::default());
+    let words = |chunk: u64| {
+        let start = (first + chunk) * CHUNK;
+        let start = start.max(u64::from(from)) as u32;
+        start..=to.min(start | (CHUNK - 1) as u32)
+    };
+    spread_over(threads, "sweep-decode", chunks, CHUNK, |chunk| {
+        let vl = VECTOR_LENGTHS[(chunk % 5) as usize];
+        let mut own = Accepted::default();
+        for word in words(chunk) {
+            one_word(vl, word, &mut own)?;
+        }
+        join(&accepted, &own);
+        Ok(())
+    })?;
+    Ok(accepted.into_inner().unwrap())
+}
+
+/// Every word with the fixed bits of a layout, and every word with one of these
+/// bits the other way, under each allowed feature number.
+pub fn near(threads: usize) -> Result<(u64, Accepted), Box<Found>> {
+    // A layout, the bit that is turned (or none), and the upper part of the
+    // numbers that its fields may be.
+    const PART: u32 = 1 << 14;
+    let mut chunks = Vec::new();
+    let mut words = 0;
+    for layout in &LAYOUTS {
+        let fields: u32 = 1 << (!layout.mask).count_ones();
+        let turns = (0..32).map(|bit| layout.mask & 1 << bit);
+        for turn in turns.filter(|&turn| turn != 0).chain([0]) {
+            for start in (0..fields).step_by(PART as usize) {
+                let end = fields.min(start + PART);
+                words += u64::from(end - start);
+                chunks.push((layout, turn, start..end));
+            }
+        }
+    }
+    let accepted = Mutex::new(Accepted::default());
+    let count = chunks.len() as u64;
+    spread_over(threads, "near", count, u64::from(PART), |chunk| {
+        let (layout, turn, fields) = chunks[chunk as usize].clone();
+        let vl = VECTOR_LENGTHS[(chunk % 5) as usize];
+        let mut own = Accepted::default();
+        for field in fields {
+            let word = (layout.value | spread(field, !layout.mask)) ^ turn;
+            one_word(vl, word, &mut own)?;
+        }
+        join(&accepted, &own);
+        Ok(())
+    })?;
+    Ok((words, accepted.into_inner().unwrap()))
+}
+
+fn join(accepted: &Mutex<Accepted>, own: &Accepted) {
+    let mut accepted = accepted.lock().unwrap();
+    for (sums, counts) in accepted.iter_mut().zip(own) {
+        for (sum, count) in sums.iter_mut().zip(counts) {
+            *sum += count;
+        }
+    }
+}
+
+/// The case that differs, for `Found` to look at.
+///
+/// Of a word with no layout's fixed bits, which is nearly every word, the
+/// reference is asked under one feature number, by turns: it looks at the
+/// layouts before it looks at features. The library is asked under all.
+#[inline]
+fn one_word(vl: u32, word: u32, accepted: &mut Accepted) -> Result<(), Box<Case>> {
+    // Lent to every reading that is to be refused, and looked at once.
+    let mut untouched = MARK;
+    if form_by_fixed_bits(word).is_none() {
+        let features = ALLOWED_FEATURES[word as usize % ALLOWED_FEATURES.len()];
+        let number = number_of(&reference::decode::decode(Setting { vl, features }, word));
+        for features in ALLOWED_FEATURES {
+            if ffi::decode(vl, features, word, &mut untouched) != number {
+                return Err(reading(Setting { vl, features }, word));
+            }
+        }
+    } else {
+        for (place, features) in ALLOWED_FEATURES.into_iter().enumerate() {
+            let setting = Setting { vl, features };
+            let equal = match reference::decode::decode(setting, word) {
+                Ok(instruction) => {
+                    accepted[place][instruction.form().number() as usize - 1] += 1;
+                    let mut fields = MARK;
+                    let found = ffi::decode(vl, features, word, &mut fields);
+                    found == 0 && fields == numbers(instruction)
+                }
+                Err(refusal) => ffi::decode(vl, features, word, &mut untouched) == refusal.number(),
+            };
+            if !equal {
+                return Err(reading(setting, word));
+            }
+        }
+    }
+    if untouched == MARK {
+        return Ok(());
+    }
+    let settings = ALLOWED_FEATURES.map(|features| Setting { vl, features });
+    let readings = settings.map(|setting| reading(setting, word));
+    let left = readings
+        .into_iter()
+        .find(|case| crate::check::check(case).is_err());
+    Err(left.expect("one of them left something in the fields"))
+}
+
+fn reading(setting: Setting, word: u32) -> Box<Case> {
+    Box::new(Case::Decode {
+        setting,
+        word,
+        room: ffi::FIELDS,
+    })
+}
+
+/// How many questions had each answer.
+pub type Answers = [u64; 10];
+
+/// Every combination of the values below, for every form, under each allowed
+/// feature number and some settings that are not allowed.
+pub fn encode(threads: usize) -> Result<Answers, Box<Found>> {
+    let grids: Vec<Grid> = Form::ALL.into_iter().map(Grid::of).collect();
+    let chunks: u64 = grids.iter().map(Grid::chunks).sum();
+    let answers = Mutex::new(Answers::default());
+    spread_over(threads, "sweep-encode", chunks, Grid::CHUNK, |chunk| {
+        let mut rest = chunk;
+        let grid = grids
+            .iter()
+            .find(|grid| {
+                let here = rest < grid.chunks();
+                if !here {
+                    rest -= grid.chunks();
+                }
+                here
+            })
+            .expect("the chunk is one of all");
+        let vl = VECTOR_LENGTHS[(chunk % 5) as usize];
+        let mut own = Answers::default();
+        for index in rest * Grid::CHUNK..grid.count.min((rest + 1) * Grid::CHUNK) {
+            one_writing(vl, &grid.numbers(index), &mut own)?;
+        }
+        let mut answers = answers.lock().unwrap();
+        for (sum, count) in answers.iter_mut().zip(own) {
+            *sum += count;
+        }
+        Ok(())
+    })?;
+    Ok(answers.into_inner().unwrap())
+}
+
+fn one_writing(vl: u32, numbers: &[u32; 7], answers: &mut Answers) -> Result<(), Box<Case>> {
+    let allowed = ALLOWED_FEATURES.map(|features| Setting { vl, features });
+    let others = [(vl + 1, 31), (vl, 2), (vl, 32)].map(|(vl, features)| Setting { vl, features });
+    for setting in allowed.into_iter().chain(others) {
+        let answer = reference_encode(setting, numbers);
+        let number = number_of(&answer);
+        let mut word = !0;
+        let found = ffi::encode(setting.vl, setting.features, numbers, &mut word);
+        if (number, answer.unwrap_or(0)) != (found, word) {
+            return Err(Box::new(Case::Encode {
+                setting,
+                numbers: numbers.to_vec(),
+            }));
+        }
+        answers[number as usize] += 1;
+    }
+    Ok(())
+}
+
+/// The values of a form's fields: all in the range, those next to it, and some
+/// that are in it after a cast.
+struct Grid {
+    form: Form,
+    values: [Vec<u32>; 6],
+    count: u64,
+}
+
+impl Grid {
+    const CHUNK: u64 = 1 << 14;
+
+    fn of(form: Form) -> Grid {
+        let sizes = vec![
+            0, 1, 2, 4, 7, 8, 9, 12, 15, 16, 17, 24, 31, 32, 33, 48, 63, 64, 65, 128, 264, 65552,
+        ];
+        let upto = |last: u32| -> Vec<u32> { (0..=last).collect() };
+        // The register's numbers, two above, and one that a cast makes 0.
+        let registers = |count: u32| -> Vec<u32> { (0..count + 2).chain([256]).collect() };
+        let none = || vec![0];
+        let values = match form {
+            Form::Pext1 => [sizes, upto(9), registers(16), registers(16), none(), none()],
+            Form::Pext2 => [sizes, upto(9), registers(16), registers(16), none(), none()],
+            Form::Dup => [
+                vec![0, 1, 7, 8, 9, 16, 24, 32, 63, 64, 65, 128],
+                upto(17),
+                (10..18).collect(),
+                upto(16),
+                upto(16),
+                upto(16),
+            ],
+            Form::Luti4c | Form::Luti4s => {
+                [sizes, upto(4), registers(32), upto(40), none(), none()]
+            }
+            Form::Uqrshrnb => [
+                sizes,
+                upto(66),
+                registers(32),
+                registers(32),
+                none(),
+                none(),
+            ],
+        };
+        let count = values.iter().map(|values| values.len() as u64).product();
+        Grid {
+            form,
+            values,
+            count,
+        }
+    }
+
+    fn chunks(&self) -> u64 {
+        self.count.div_ceil(Grid::CHUNK)
+    }
+
+    fn numbers(&self, mut index: u64) -> [u32; 7] {
+        let mut numbers = [self.form.number() - 1; 7];
+        for (number, values) in numbers[1..].iter_mut().zip(&self.values) {
+            let length = values.len() as u64;
+            *number = values[(index % length) as usize];
+            index /= length;
+        }
+        numbers
+    }
+}
+
+/// Does every chunk on one of the threads, until one differs.
+fn spread_over(
+    threads: usize,
+    title: &str,
+    chunks: u64,
+    size: u64,
+    work: impl Fn(u64) -> Result<(), Box<Case>> + Sync,
+) -> Result<(), Box<Found>> {
+    let next = AtomicU64::new(0);
+    let done = AtomicU64::new(0);
+    let working = AtomicU64::new(threads as u64);
+    let stop = AtomicBool::new(false);
+    let found: Mutex<Option<Box<Case>>> = Mutex::new(None);
+    let worker = || {
+        while !stop.load(Ordering::Relaxed) {
+            let chunk = next.fetch_add(1, Ordering::Relaxed);
+            if chunk >= chunks {
+                break;
+            }
+            if let Err(case) = work(chunk) {
+                stop.store(true, Ordering::Relaxed);
+                *found.lock().unwrap() = Some(case);
+            }
+            done.fetch_add(1, Ordering::Relaxed);
+        }
+        working.fetch_sub(1, Ordering::Relaxed);
+    };
+    thread::scope(|scope| {
+        for _ in 0..threads {
+            scope.spawn(worker);
+        }
+        let mut progress = Progress::new(title, chunks * size);
+        while working.load(Ordering::Relaxed) > 0 {
+            thread::sleep(Duration::from_millis(5));
+            progress.at(done.load(Ordering::Relaxed) * size);
+        }
+    });
+    match found.into_inner().unwrap() {
+        None => Ok(()),
+        Some(case) => {
+            let difference = crate::check::check(&case).err();
+            let difference = difference.unwrap_or_else(|| "seen in the sweep alone".into());
+            Err(Box::new(Found::of(0, &case, difference)))
+        }
+    }
+}

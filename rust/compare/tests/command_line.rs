@@ -1,0 +1,92 @@
+//! The program as it is called.
+
+use std::process::{Command, Output};
+
+fn compare(arguments: &[&str]) -> Output {
+    Command::new(env!("CARGO_BIN_EXE_compare"))
+        .args(arguments)
+        .output()
+        .unwrap()
+}
+
+fn text(bytes: &[u8]) -> String {
+    String::from_utf8(bytes.to_vec()).unwrap()
+}
+
+#[test]
+fn all_kinds_without_a_difference() {
+    let output = compare(&["all", "--seed", "2", "--count", "3000"]);
+    let report = text(&output.stdout);
+    assert!(output.status.success(), "{report}");
+    for kind in compare::case::Kind::ALL {
+        let line = format!("\n{}: ", kind.name());
+        assert!(report.contains(&line), "{report}");
+    }
+    assert!(!report.contains("DIFFERENCE"), "{report}");
+}
+
+/// The same cases on any number of threads.
+#[test]
+fn threads_change_nothing() {
+    let answers = |threads| {
+        let output = compare(&["step", "--count", "2000", "--threads", threads]);
+        let report = text(&output.stdout);
+        let answers = report.rsplit_once("; answers ").unwrap().1;
+        answers.rsplit_once(" (").unwrap().0.to_string()
+    };
+    assert_eq!(answers("1"), answers("3"));
+}
+
+#[test]
+fn every_answer_of_a_step_comes() {
+    let report = text(&compare(&["step", "--count", "20000"]).stdout);
+    for number in 0..7 {
+        assert!(report.contains(&format!("{number}: ")), "{report}");
+    }
+}
+
+#[test]
+fn a_part_of_the_sweep_counts_what_is_read() {
+    let output = compare(&["sweep-decode", "--from", "c08a8000", "--to", "c08abfff"]);
+    let report = text(&output.stdout);
+    assert!(output.status.success(), "{report}");
+    assert!(report.contains("16384 words from c08a8000"), "{report}");
+    // i1 is 0 and the size 01 or 10; Zn and Zd are any.
+    assert!(
+        report.contains("features 31: PEXT1 0, PEXT2 0, DUP 0, LUTI4C 512, LUTI4S 0, UQRSHRNB 0"),
+        "{report}"
+    );
+}
+
+#[test]
+fn a_case_is_replayed_in_one_word_or_in_many() {
+    let case = "decode vl=128 features=31 word=25207010 room=7";
+    let output = compare(&["replay", case]);
+    assert!(output.status.success());
+    assert_eq!(
+        text(&output.stdout),
+        "decode: no difference, both answer 0\n"
+    );
+    let words: Vec<&str> = ["replay"].into_iter().chain(case.split(' ')).collect();
+    assert_eq!(compare(&words).stdout, output.stdout);
+}
+
+#[test]
+fn wrong_use_is_one_line_and_status_2() {
+    for arguments in [
+        &[][..],
+        &["leap"],
+        &["all", "--count"],
+        &["all", "--count", "x"],
+        &["all", "--threads", "0"],
+        &["all", "--colour", "3"],
+        &["sweep-decode", "--from", "2", "--to", "1"],
+        &["replay"],
+        &["replay", "decode vl=128"],
+    ] {
+        let output = compare(arguments);
+        assert_eq!(output.status.code(), Some(2), "{arguments:?}");
+        assert!(output.stdout.is_empty());
+        assert_eq!(text(&output.stderr).matches('\n').count(), 1);
+    }
+}
