@@ -1,0 +1,177 @@
+//! A hundred damaged lessons: a clear line each, never a panic, nothing
+//! written.
+
+mod support;
+
+use std::fs;
+use std::path::Path;
+
+use reference::random::Random;
+use support::{LESSONS, complaint, folder, gighull_in, lesson_text, names_in};
+
+const SEED: u64 = 500;
+const OF_EACH_KIND: usize = 20;
+
+type Damage = fn(&mut Random, &str) -> Vec<u8>;
+
+const KINDS: [(&str, Damage); 5] = [
+    ("cut", cut),
+    ("wrong-number", wrong_number),
+    ("unknown-name", unknown_name),
+    ("too-many", too_many),
+    ("random-bytes", random_bytes),
+];
+
+fn below(random: &mut Random, bound: usize) -> usize {
+    random.below(bound as u32) as usize
+}
+
+/// Cut anywhere before its end.
+fn cut(random: &mut Random, text: &str) -> Vec<u8> {
+    let end = text.rfind("end").unwrap();
+    text.as_bytes()[..below(random, end + 2)].to_vec()
+}
+
+/// The runs of such letters outside comments, as ranges of bytes.
+fn runs(text: &str, part: fn(char) -> bool) -> Vec<(usize, usize)> {
+    let mut runs: Vec<(usize, usize)> = Vec::new();
+    let mut comment = false;
+    for (at, letter) in text.char_indices() {
+        comment = letter != '\n' && (comment || letter == '#');
+        if comment || !part(letter) {
+            continue;
+        }
+        match runs.last_mut() {
+            Some((_, end)) if *end == at => *end += 1,
+            _ => runs.push((at, at + 1)),
+        }
+    }
+    runs
+}
+
+fn replaced(text: &str, (from, to): (usize, usize), with: &str) -> Vec<u8> {
+    format!("{}{with}{}", &text[..from], &text[to..]).into_bytes()
+}
+
+fn wrong_number(random: &mut Random, text: &str) -> Vec<u8> {
+    let numbers = runs(text, |letter| letter.is_ascii_digit());
+    let run = numbers[below(random, numbers.len())];
+    let wrong = [
+        "-1",
+        "1.5",
+        "12x",
+        "0x",
+        "99999999999999999999",
+        "٣",
+        "+2",
+        "1,",
+    ];
+    replaced(text, run, random.pick(&wrong))
+}
+
+fn unknown_name(random: &mut Random, text: &str) -> Vec<u8> {
+    let names = runs(text, |letter| letter.is_ascii_alphabetic());
+    let run = names[below(random, names.len())];
+    // No name of a lesson begins with a q.
+    let mut name = String::from("q");
+    for _ in 0..random.below(40) {
+        name.push(char::from(b'a' + random.below(26) as u8));
+    }
+    replaced(text, run, &name)
+}
+
+/// More elements than the register has, more counted than there are, more
+/// positions than words.
+fn too_many(random: &mut Random, text: &str) -> Vec<u8> {
+    let mut lines: Vec<String> = text.lines().map(str::to_string).collect();
+    let is_list = |line: &str| line.contains(".s = ") || line.contains(".n  = ");
+    let may_grow = |line: &str| line.contains(" first ") || line.starts_with("order ");
+    let places: Vec<usize> = (0..lines.len())
+        .filter(|&at| !lines[at].starts_with('#'))
+        .filter(|&at| is_list(&lines[at]) || may_grow(&lines[at]))
+        .collect();
+    let line = &mut lines[random.pick(&places)];
+    let told = line.split('#').next().unwrap().trim_end().to_string();
+    *line = if told.contains(" first ") {
+        format!("{told}{}", 1000 + random.below(9000))
+    } else {
+        let more = if told.starts_with("order") { 1 } else { 129 };
+        told + &" 1".repeat(more + below(random, 600))
+    };
+    lines.join("\n").into_bytes()
+}
+
+/// A whole file of them, or some in the middle of a lesson.
+fn random_bytes(random: &mut Random, text: &str) -> Vec<u8> {
+    let mut bytes = |count: u32, least: u8| -> Vec<u8> {
+        let byte = |random: &mut Random| least | random.next_u32() as u8;
+        (0..count).map(|_| byte(random)).collect()
+    };
+    if text.len() % 2 == 0 {
+        return bytes(400, 0);
+    }
+    let some = bytes(6, 0x80);
+    let at = below(random, text.len());
+    [&text.as_bytes()[..at], &some, &text.as_bytes()[at..]].concat()
+}
+
+#[test]
+fn a_hundred_damaged_lessons() {
+    let mut random = Random::new(SEED);
+    let folder = folder("damaged");
+    let mut names = Vec::new();
+    let mut complaints = String::new();
+    for (kind, damage) in KINDS {
+        for number in 0..OF_EACH_KIND {
+            let text = lesson_text(LESSONS[number % LESSONS.len()]);
+            let bytes = damage(&mut random, &text);
+            let name = format!("{kind}-{number:02}.lesson");
+            fs::write(folder.join(&name), &bytes).unwrap();
+            complaints.push_str(&refused(&folder, &name, &bytes));
+            names.push(name);
+        }
+    }
+    assert_eq!(names.len(), 100);
+    names.sort();
+    // The lessons themselves, and nothing else: no file was begun.
+    assert_eq!(names_in(&folder), names);
+    for part in [
+        ":1: ",
+        "end",
+        "no number from 0 to",
+        "there is no",
+        "elements at VL",
+    ] {
+        assert!(complaints.contains(part), "{part} is not in\n{complaints}");
+    }
+    println!("{complaints}");
+}
+
+/// One line with its place, and nothing else; the line is answered.
+fn refused(folder: &Path, name: &str, bytes: &[u8]) -> String {
+    let arguments = [
+        "run",
+        name,
+        "--save",
+        "saved.lesson",
+        "--plot",
+        "z8.s",
+        "curve.svg",
+    ];
+    let output = gighull_in(folder, &arguments);
+    let said = complaint(&output);
+    let shown = String::from_utf8_lossy(bytes);
+    assert_eq!(output.status.code(), Some(1), "{name}: {said}\n{shown}");
+    assert!(output.stdout.is_empty(), "{name}");
+    let line = said.strip_suffix('\n').expect("a whole line");
+    assert!(!line.chars().any(char::is_control), "{line:?}");
+    assert!(line.chars().count() <= 300, "{line}");
+    let (place, message) = line.split_once(": ").expect("a place and a message");
+    let (file, number) = place.rsplit_once(':').expect("a file and a line");
+    assert_eq!(file, name);
+    let lines = bytes.split(|&byte| byte == b'\n').count();
+    let number: usize = number.parse().unwrap();
+    assert!((1..=lines).contains(&number), "{line}: {lines} lines");
+    assert!(message.len() > 10, "{line}");
+    said
+}
