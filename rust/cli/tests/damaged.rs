@@ -101,17 +101,21 @@ fn too_many(random: &mut Random, text: &str) -> Vec<u8> {
     lines.join("\n").into_bytes()
 }
 
-/// A whole file of them, or some in the middle of a lesson.
+/// A whole file of them, some in the middle of a lesson that are no text, or
+/// a line of its own that is.
 fn random_bytes(random: &mut Random, text: &str) -> Vec<u8> {
-    let mut bytes = |count: u32, least: u8| -> Vec<u8> {
-        let byte = |random: &mut Random| least | random.next_u32() as u8;
-        (0..count).map(|_| byte(random)).collect()
+    let mut bytes = |count: u32, from: u32, below: u32| -> Vec<u8> {
+        let byte = |_| (from + random.below(below - from)) as u8;
+        (0..count).map(byte).collect()
     };
-    if text.len() % 2 == 0 {
-        return bytes(400, 0);
-    }
-    let some = bytes(6, 0x80);
-    let at = below(random, text.len());
+    let size = u32::from(bytes(1, 1, 256)[0]);
+    let kind = bytes(1, 0, 3)[0];
+    let some = match kind {
+        0 => return bytes(size, 0, 256),
+        1 => bytes(6, 0x80, 0x100),
+        _ => [b"\n%", &bytes(size, 0x20, 0x80)[..], b"\n"].concat(),
+    };
+    let at = below(random, text.rfind("end").unwrap());
     [&text.as_bytes()[..at], &some, &text.as_bytes()[at..]].concat()
 }
 

@@ -97,21 +97,44 @@ fn the_comparison_notices() {
     }
 }
 
+/// The eleven points, in nanoamperes.
+const POINTS: [u64; 11] = [
+    0, 20, 206, 1886, 16628, 120_318, 487_041, 1_112_796, 1_876_199, 2_709_707, 3_583_158,
+];
+
+/// The lesson's currents solve the lesson's equation, to the nanoampere.
+#[test]
+fn the_points_are_solved() {
+    let voltage = |nanoamperes: f64| {
+        let current = nanoamperes * 1e-9;
+        100.0 * current + 1.752 * 0.025852 * (current / 2.52e-9).ln_1p()
+    };
+    let text = lesson_text("diode");
+    let listed = POINTS.map(|point| point.to_string()).join(" ");
+    assert!(text.contains(&format!("zt0.s = {listed}\n")));
+    for (place, point) in POINTS.into_iter().enumerate() {
+        let source = place as f64 / 10.0;
+        let point = point as f64;
+        assert!(voltage(point - 0.5) <= source && source <= voltage(point + 0.5), "{source} V");
+    }
+}
+
 /// The stored curve passes by its eleven points: each is as near as steps of
 /// 64 nA allow, and none is cut. With steps of 32 nA two are.
 #[test]
 fn the_curve_passes_by_its_points() {
     let text = lesson_text("diode");
-    let points = [
-        0, 20, 206, 1886, 16628, 120_318, 487_041, 1_112_796, 1_876_199, 2_709_707, 3_583_158,
-    ];
     let stored = |text: &str| {
         let found = lesson(text, None);
         let z8 = elements(&found.end, "z8.s", found.setting.vl);
         assert!(z8[11..].iter().all(|&value| value == 0));
         z8[..11].to_vec()
     };
-    for (point, value) in points.into_iter().zip(stored(&text)) {
+    let page = fs::read_to_string(Path::new(ROOT).join("docs/LESSONS.md")).unwrap();
+    for (point, value) in POINTS.into_iter().zip(stored(&text)) {
+        // The page has this row of its table.
+        let row = format!("| {point} | {value} | {} | ", 64 * value);
+        assert!(page.contains(&row), "{row}");
         assert!(
             value < 65535 && (64 * value).abs_diff(point) <= 32,
             "{point}: {value}"

@@ -3,7 +3,7 @@
 use gighull::{Scalars, Setting, features};
 
 use super::values::{counter, number, number_up_to, values};
-use super::{Content, FEATURES, Flags, LENGTHS, Lesson, Order, Show, Start, Values, Word, word};
+use super::{Content, FEATURES, Flags, LENGTHS, Lesson, Order, Show, Start, Word, word};
 use crate::failure::{Failure, quoted};
 use crate::register::{Elements, Register};
 
@@ -81,7 +81,15 @@ impl Parser {
             "end" => Err(format!("{} follows `end`", quoted(rest.trim()))),
             _ if word::form(first).is_some() || word::hex(first).is_some() => self.word(line),
             _ => match line.split_once('=') {
-                Some((name, value)) => self.content(name.trim(), value.trim()),
+                // Of a word's line, fields with a `=` follow the first name.
+                Some((name, value)) if !name.trim().contains(char::is_whitespace) => {
+                    self.content(name.trim(), value.trim())
+                }
+                Some(_) => Err(format!("{} is no form: {}", quoted(first), word::names())),
+                None if first.bytes().all(|digit| digit.is_ascii_hexdigit()) => Err(format!(
+                    "{} is no word: it has eight hex digits",
+                    quoted(first)
+                )),
                 None => Err(format!(
                     "{} is no line of a lesson: vl, features, flags, a register and `=`, a word, order, show, end",
                     quoted(first)
@@ -179,60 +187,27 @@ impl Parser {
     }
 
     fn content(&mut self, name: &str, value: &str) -> Result<(), String> {
-        self.enter(Part::Contents)?;
-        let vl = self.lesson.setting.vl;
-        let line = self.line;
-        let start = if name.eq_ignore_ascii_case("pc") {
-            self.once("pc")?;
-            Start::Pc(number_up_to("pc", value, u64::MAX)?)
-        } else if let Some(elements) = Elements::from_name(name) {
-            self.once(&elements.register.to_string())?;
-            let values = values(elements, value, vl)?;
-            Start::Elements { elements, values }
-        } else {
-            let register = Register::from_name(name);
-            let register = register.ok_or_else(|| self.unknown(name))?;
-            self.once(&register.to_string())?;
-            self.whole(register, value, vl)?
+        let elements = Elements::from_name(name);
+        let register = elements.map_or_else(|| Register::from_name(name), |its| Some(its.register));
+        let key = match register {
+            Some(register) => register.to_string(),
+            None if name.eq_ignore_ascii_case("pc") => "pc".to_string(),
+            None => return Err(unknown(name)),
         };
+        self.enter(Part::Contents)?;
+        self.once(&key)?;
+        let vl = self.lesson.setting.vl;
+        let start = match (elements, register) {
+            (Some(elements), _) => Start::Elements {
+                elements,
+                values: values(elements, value, vl)?,
+            },
+            (None, Some(register)) => whole(register, value, vl)?,
+            (None, None) => Start::Pc(number_up_to("pc", value, u64::MAX)?),
+        };
+        let line = self.line;
         self.lesson.contents.push(Content { line, start });
         Ok(())
-    }
-
-    /// A register that is set without an element width.
-    fn whole(&self, register: Register, value: &str, vl: u32) -> Result<Start, String> {
-        let (first, rest) = value.split_once(char::is_whitespace).unwrap_or((value, ""));
-        match (register, first) {
-            (Register::W(register), _) => {
-                let greatest = u64::from(u32::MAX);
-                let value = number_up_to(&format!("w{register}"), value, greatest)? as u32;
-                Ok(Start::W { register, value })
-            }
-            (Register::P(register), "counter") => {
-                let counter = counter(rest, vl)?;
-                Ok(Start::Counter { register, counter })
-            }
-            // The bits of a predicate are its elements of 8 bits.
-            (Register::P(_), "bits") => {
-                let elements = Elements { register, width: 8 };
-                let values: Values = values(elements, rest, vl)?;
-                Ok(Start::Elements { elements, values })
-            }
-            (Register::P(k), _) => Err(format!(
-                "p{k} is set by `p{k}.h = 1 0 1`, `p{k} = bits 1 0 1` or `p{k} = counter …`"
-            )),
-            (Register::Zt0, _) => Err("zt0 is set by `zt0.s = …`".to_string()),
-            (Register::Z(k), _) => Err(format!(
-                "z{k} is set by element: z{k}.n, z{k}.b, z{k}.h, z{k}.s or z{k}.d"
-            )),
-        }
-    }
-
-    fn unknown(&self, name: &str) -> String {
-        format!(
-            "there is no {}: z0.h to z31.h (n, b, h, s, d), p0 to p15, pn8 to pn15, zt0.s, w12 to w15, pc",
-            quoted(name)
-        )
     }
 
     fn word(&mut self, line: &str) -> Result<(), String> {
@@ -281,6 +256,42 @@ impl Parser {
         self.lesson.shows.push(show);
         Ok(())
     }
+}
+
+/// A register that is set without an element width.
+fn whole(register: Register, value: &str, vl: u32) -> Result<Start, String> {
+    let (first, rest) = value.split_once(char::is_whitespace).unwrap_or((value, ""));
+    match (register, first) {
+        (Register::W(register), _) => {
+            let greatest = u64::from(u32::MAX);
+            let value = number_up_to(&format!("w{register}"), value, greatest)? as u32;
+            Ok(Start::W { register, value })
+        }
+        (Register::P(register), "counter") => {
+            let counter = counter(rest, vl)?;
+            Ok(Start::Counter { register, counter })
+        }
+        // The bits of a predicate are its elements of 8 bits.
+        (Register::P(_), "bits") => {
+            let elements = Elements { register, width: 8 };
+            let values = values(elements, rest, vl)?;
+            Ok(Start::Elements { elements, values })
+        }
+        (Register::P(k), _) => Err(format!(
+            "p{k} is set by `p{k}.h = 1 0 1`, `p{k} = bits 1 0 1` or `p{k} = counter …`"
+        )),
+        (Register::Zt0, _) => Err("zt0 is set by `zt0.s = …`".to_string()),
+        (Register::Z(k), _) => Err(format!(
+            "z{k} is set by element: z{k}.n, z{k}.b, z{k}.h, z{k}.s or z{k}.d"
+        )),
+    }
+}
+
+fn unknown(name: &str) -> String {
+    format!(
+        "there is no {}: z0.h to z31.h (n, b, h, s, d), p0 to p15, pn8 to pn15, zt0.s, w12 to w15, pc",
+        quoted(name)
+    )
 }
 
 /// A vector length that boards have.
