@@ -141,7 +141,14 @@ fn options(arguments: &[OsString]) -> Result<Options, Failure> {
     let failure = |message: String| Failure::new("gighull run", message);
     let mut options = Options::default();
     let mut rest = arguments.iter();
+    let mut given: Vec<&OsString> = Vec::new();
     while let Some(argument) = rest.next() {
+        let is_option = argument.to_string_lossy().starts_with("--");
+        if is_option && given.contains(&argument) {
+            let option = quoted(&argument.to_string_lossy());
+            return Err(failure(format!("{option} is given twice")));
+        }
+        given.push(argument);
         let mut value = |what: &str| {
             let name = argument.to_string_lossy();
             rest.next()

@@ -72,7 +72,9 @@ pub fn encode(arguments: &[&str]) -> Result<String, Failure> {
         let name = quoted(name);
         failure(format!("{name} is no form: {}", word::names()))
     })?;
-    let word = word::written(form, fields).map_err(failure)?;
+    let instruction = word::instruction(form, fields).map_err(failure)?;
+    let word = word::written(instruction)
+        .map_err(|message| Failure::refused("gighull encode", message))?;
     Ok(format!("{word:08x}\n"))
 }
 

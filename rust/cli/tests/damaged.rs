@@ -6,6 +6,11 @@ mod support;
 use std::fs;
 use std::path::Path;
 
+use gighull_cli::lesson::{LENGTHS, Lesson};
+use gighull_cli::paint::Paint;
+use gighull_cli::report::Report;
+use gighull_cli::run::Session;
+use gighull_cli::save;
 use reference::random::Random;
 use support::{LESSONS, complaint, folder, gighull_in, lesson_text, names_in};
 
@@ -149,6 +154,52 @@ fn a_hundred_damaged_lessons() {
         assert!(complaints.contains(part), "{part} is not in\n{complaints}");
     }
     println!("{complaints}");
+}
+
+/// Small edits anywhere: what is still a lesson runs, is told, and
+/// saved it is a lesson that starts from the same machine; the rest is refused
+/// with its place. None panics.
+#[test]
+fn thousands_of_edits() {
+    let mut random = Random::new(SEED + 1);
+    let letters: Vec<char> = "0123456789abcdefxnhsd.=# \n-'…".chars().collect();
+    let mut found = [0; 2];
+    for number in 0..3000 {
+        let mut text: Vec<char> = lesson_text(LESSONS[number % LESSONS.len()])
+            .chars()
+            .collect();
+        for _ in 0..1 + random.below(3) {
+            let at = below(&mut random, text.len() - 1);
+            match random.below(4) {
+                0 => drop(text.remove(at)),
+                1 => text.insert(at, random.pick(&letters)),
+                2 => text[at] = random.pick(&letters),
+                _ => text.swap(at, at + 1),
+            }
+        }
+        let text: String = text.into_iter().collect();
+        match Lesson::parse("edited.lesson", text.as_bytes()) {
+            Err(failure) => {
+                assert!(failure.place.starts_with("edited.lesson:"));
+                found[1] += 1;
+            }
+            Ok(lesson) => {
+                let vl = random.pick(&LENGTHS);
+                let session = Session::new(&lesson, vl);
+                let paint = Paint(random.coin());
+                let report = Report {
+                    session: &session,
+                    paint,
+                };
+                assert!(report.text(true).contains("answer   "));
+                let saved = save::text(&session);
+                let again = Lesson::parse("saved.lesson", saved.as_bytes()).unwrap();
+                assert!(again.machine(vl).0 == session.ran.end, "{text}\n{saved}");
+                found[0] += 1;
+            }
+        }
+    }
+    assert!(found.iter().all(|&count| count > 500), "{found:?}");
 }
 
 /// One line with its place, and nothing else; the line is answered.

@@ -115,7 +115,10 @@ fn the_points_are_solved() {
     for (place, point) in POINTS.into_iter().enumerate() {
         let source = place as f64 / 10.0;
         let point = point as f64;
-        assert!(voltage(point - 0.5) <= source && source <= voltage(point + 0.5), "{source} V");
+        assert!(
+            voltage(point - 0.5) <= source && source <= voltage(point + 0.5),
+            "{source} V"
+        );
     }
 }
 

@@ -17,6 +17,9 @@ enum Part {
     End,
 }
 
+/// Each order is run on a machine of its own.
+const MOST_ORDERS: usize = 100;
+
 struct Parser {
     lesson: Lesson,
     part: Part,
@@ -238,6 +241,9 @@ impl Parser {
         if let Some(missing) = seen.iter().position(|&seen| !seen) {
             return Err(format!("order: word {missing} is left out"));
         }
+        if self.lesson.orders.len() == MOST_ORDERS {
+            return Err(format!("a lesson has at most {MOST_ORDERS} orders"));
+        }
         let line = self.line;
         self.lesson.orders.push(Order { line, positions });
         Ok(())
@@ -253,6 +259,7 @@ impl Parser {
                 return Err(format!("show: {name} is none of z8.s, p0.b, zt0.s, pn8"));
             }
         };
+        self.once(&format!("show {}", name.to_ascii_lowercase()))?;
         self.lesson.shows.push(show);
         Ok(())
     }

@@ -1,6 +1,6 @@
 //! Words as hex, or by form and fields.
 
-use gighull::{Form, Instruction, Refusal, Setting, encode, features};
+use gighull::{Form, Instruction, Refusal, Setting, encode};
 
 use super::values::number;
 use crate::failure::quoted;
@@ -25,7 +25,7 @@ pub fn word(text: &str) -> Result<u32, String> {
     let first = tokens.next().unwrap_or("");
     if let Some(form) = form(first) {
         let fields: Vec<&str> = tokens.collect();
-        return written(form, &fields);
+        return written(instruction(form, &fields)?);
     }
     match (hex(first), tokens.next()) {
         (Some(word), None) => Ok(word),
@@ -38,28 +38,25 @@ pub fn word(text: &str) -> Result<u32, String> {
     }
 }
 
-/// The word of a form with these fields, each given once, in any order.
-pub fn written(form: Form, fields: &[&str]) -> Result<u32, String> {
+/// The instruction of a form with these fields, each given once, in any order.
+pub fn instruction(form: Form, fields: &[&str]) -> Result<Instruction, String> {
     let names = form.field_names();
+    let known = || names.join(", ");
     let mut found = vec![None; names.len()];
     for field in fields {
         let Some((name, value)) = field.split_once('=') else {
-            let known = names.join(", ");
-            return Err(format!(
-                "{form}: {} is no field=value: {known}",
-                quoted(field)
-            ));
+            let field = quoted(field);
+            return Err(format!("{form}: {field} is no field=value: {}", known()));
         };
         let Some(place) = names.iter().position(|known| *known == name) else {
-            let known = names.join(", ");
-            return Err(format!("{form} has no field {}: {known}", quoted(name)));
+            return Err(format!("{form} has no field {}: {}", quoted(name), known()));
         };
         if found[place].is_some() {
             return Err(format!("{form}: {name} is given twice"));
         }
         let value = number(value).and_then(|value| u32::try_from(value).ok());
-        found[place] =
-            Some(value.ok_or_else(|| format!("{form}: {} is no number", quoted(field)))?);
+        let value = value.ok_or_else(|| format!("{form}: {} is no number", quoted(field)))?;
+        found[place] = Some(value);
     }
     let mut numbers = [0; gighull::ffi::FIELDS];
     let place = Form::ALL.into_iter().position(|known| known == form);
@@ -67,11 +64,15 @@ pub fn written(form: Form, fields: &[&str]) -> Result<u32, String> {
     for ((number, value), name) in numbers[1..].iter_mut().zip(&found).zip(names) {
         *number = value.ok_or_else(|| format!("{form}: field {name} is missing"))?;
     }
-    let instruction = Instruction::from_numbers(numbers).expect("the form is one of six");
-    // A word is the same under every feature; whether the bench then reads it
-    // is asked when it comes to run.
-    let setting = Setting::new(128, features::ALL);
-    encode(setting, instruction).map_err(|refusal| match refusal {
+    Ok(Instruction::from_numbers(numbers).expect("the form is one of six"))
+}
+
+/// The word of an instruction, or the bench's answer with the ranges. A word
+/// is the same under every feature; whether the bench then reads it is asked
+/// when it comes to run.
+pub fn written(instruction: Instruction) -> Result<u32, String> {
+    let form = instruction.form();
+    encode(Setting::FULL, instruction).map_err(|refusal| match refusal {
         Refusal::Range => format!("{form}: {refusal} ({})", ranges(form)),
         _ => format!("{form}: {refusal}"),
     })

@@ -40,6 +40,16 @@ pub fn complaint(output: &Output) -> String {
     String::from_utf8(output.stderr.clone()).expect("it complains in text")
 }
 
+/// Wrong input: one line that begins so, status 1, and nothing else.
+pub fn wrong(arguments: &[&str], start: &str) {
+    let output = gighull(arguments);
+    let said = complaint(&output);
+    assert_eq!(output.status.code(), Some(1), "{arguments:?}: {said}");
+    assert!(output.stdout.is_empty(), "{arguments:?}");
+    assert_eq!(said.matches('\n').count(), 1, "{said}");
+    assert!(said.starts_with(start), "{said}");
+}
+
 /// A new and empty folder for a test.
 pub fn folder(name: &str) -> PathBuf {
     let folder = Path::new(env!("CARGO_TARGET_TMPDIR")).join(name);
