@@ -25,12 +25,11 @@ impl Report<'_> {
             text.push_str(&self.steps());
         }
         text.push_str(&self.answer());
-        text.push_str(&self.changes(
-            ("before", &self.session.start),
-            ("after", &self.session.ran.end),
-            &self.session.lesson.shows,
-            &self.widths(self.session.ran.done),
-        ));
+        let Session {
+            lesson, start, ran, ..
+        } = self.session;
+        let sides = [("before", start), ("after", &ran.end)];
+        text.push_str(&self.changes(sides, &lesson.shows, &self.widths(ran.done)));
         for ordered in &self.session.orders {
             text.push_str(&self.ordered(ordered));
         }
@@ -116,12 +115,10 @@ impl Report<'_> {
             let _ = write!(text, "\nanswer   {}", self.answer_of(refusal));
             let (from, to) = (before.scalars.pc, machine.scalars.pc);
             let _ = writeln!(text, "; pc {from:#x} -> {to:#x}");
-            let shows: Vec<Show> = (lesson.shows.iter().copied())
-                .filter(|show| changed(show_register(show), &before, &machine, setting.vl))
-                .collect();
+            let shows = self.shows_of_changed(&before, &machine);
             let widths = self.widths(place + 1);
-            let sides = (("before", &before), ("after", &machine));
-            text.push_str(&self.changes(sides.0, sides.1, &shows, &widths));
+            let sides = [("before", &before), ("after", &machine)];
+            text.push_str(&self.changes(sides, &shows, &widths));
             text.push('\n');
         }
         text
@@ -145,26 +142,41 @@ impl Report<'_> {
         widths
     }
 
+    /// What is to be shown of two machines in the middle of a lesson.
+    fn shows_of_changed(&self, before: &Machine, after: &Machine) -> Vec<Show> {
+        let vl = self.session.setting.vl;
+        let shows = self.session.lesson.shows.iter().copied();
+        shows
+            .filter(|show| changed(show_register(show), before, after, vl))
+            .collect()
+    }
+
     /// Each register that differs, and those that are to be shown.
     fn changes(
         &self,
-        (first, before): (&str, &Machine),
-        (second, after): (&str, &Machine),
+        sides: [(&str, &Machine); 2],
         shows: &[Show],
         widths: &BTreeMap<Register, u32>,
     ) -> String {
         let vl = self.session.setting.vl;
+        let [(_, before), (_, after)] = sides;
         let mut text = String::new();
         for register in Register::of_files() {
             let changed = changed(register, before, after, vl);
             let mut views: Vec<Show> = (shows.iter().copied())
                 .filter(|show| show_register(show) == register)
                 .collect();
-            if views.is_empty() && changed {
+            // A counter, or elements that are too wide, may hide what changed.
+            let tells_all = |show: &Show| match *show {
+                Show::Elements(shown) => {
+                    view(register, Some(shown.width), &[before, after], vl) == shown
+                }
+                Show::Counter(_) => false,
+            };
+            if changed && !views.iter().any(tells_all) {
                 let width = widths.get(&register).copied();
                 views.push(Show::Elements(view(register, width, &[before, after], vl)));
             }
-            let sides = [(first, before), (second, after)];
             let sides = if changed {
                 &sides[..]
             } else {
@@ -273,14 +285,9 @@ impl Report<'_> {
             let _ = writeln!(text, "both ended alike, in every byte and scalar{luck}");
         } else {
             text.push_str("it ended differently:\n");
-            let sides = (("lesson", &first.end), ("this order", &ran.end));
-            let shows: Vec<Show> = (self.session.lesson.shows.iter().copied())
-                .filter(|show| {
-                    let vl = self.session.setting.vl;
-                    changed(show_register(show), sides.0.1, sides.1.1, vl)
-                })
-                .collect();
-            text.push_str(&self.changes(sides.0, sides.1, &shows, &self.widths(count)));
+            let shows = self.shows_of_changed(&first.end, &ran.end);
+            let sides = [("lesson", &first.end), ("this order", &ran.end)];
+            text.push_str(&self.changes(sides, &shows, &self.widths(count)));
         }
         text
     }

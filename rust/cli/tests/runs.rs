@@ -96,6 +96,17 @@ fn other_contents() {
     let block = "p3.b  before   0: 11101000 00000000 00000000 00000000\n      \
                  after    0: 10101010 10101010 10101010 10101010\n";
     assert!(told.ends_with(block), "{told}");
+    // A view that hides bits does not hide a change.
+    let text = "vl 256\npn9 = counter b all\nshow pn8\nshow p8.d\n\
+                PEXT1 size=8 imm2=0 counter=9 pd=8\nend\n";
+    let told = lesson(&folder, text, &[], 0);
+    for part in [
+        "pn8   after  0xffff",
+        "p8.d  before  all 0\n",
+        "p8.b  before  all 0\n",
+    ] {
+        assert!(told.contains(part), "{part} is not in\n{told}");
+    }
     let copies = "45283801\n45283801\norder 1 0\nend";
     let told = lesson(&folder, copies, &[], 0);
     assert!(
