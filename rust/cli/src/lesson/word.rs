@@ -1,0 +1,127 @@
+//! Words as hex, or by form and fields.
+
+use gighull::{Form, Instruction, Refusal, Setting, encode};
+
+use super::values::number;
+use crate::failure::quoted;
+
+/// Eight hex digits, `0x` before them or not.
+pub fn hex(text: &str) -> Option<u32> {
+    let digits = text.strip_prefix("0x").unwrap_or(text);
+    let plain = digits.len() == 8 && digits.bytes().all(|digit| digit.is_ascii_hexdigit());
+    plain.then(|| u32::from_str_radix(digits, 16).ok())?
+}
+
+/// A form by its name, in either case.
+pub fn form(name: &str) -> Option<Form> {
+    Form::ALL
+        .into_iter()
+        .find(|form| form.name().eq_ignore_ascii_case(name))
+}
+
+/// `45283801`, or `UQRSHRNB size=8 shift=8 zn=0 zd=1`.
+pub fn word(text: &str) -> Result<u32, String> {
+    let mut tokens = text.split_whitespace();
+    let first = tokens.next().unwrap_or("");
+    if let Some(form) = form(first) {
+        let fields: Vec<&str> = tokens.collect();
+        return written(instruction(form, &fields)?);
+    }
+    match (hex(first), tokens.next()) {
+        (Some(word), None) => Ok(word),
+        (Some(_), Some(more)) => Err(format!("{} follows a word", quoted(more))),
+        (None, _) => Err(format!(
+            "{} is no word: eight hex digits, or one of the forms {}",
+            quoted(first),
+            names()
+        )),
+    }
+}
+
+/// The instruction of a form with these fields, each given once, in any order.
+pub fn instruction(form: Form, fields: &[&str]) -> Result<Instruction, String> {
+    let names = form.field_names();
+    let known = || names.join(", ");
+    let mut found = vec![None; names.len()];
+    for field in fields {
+        let Some((name, value)) = field.split_once('=') else {
+            let field = quoted(field);
+            return Err(format!("{form}: {field} is no field=value: {}", known()));
+        };
+        let Some(place) = names.iter().position(|known| *known == name) else {
+            return Err(format!("{form} has no field {}: {}", quoted(name), known()));
+        };
+        if found[place].is_some() {
+            return Err(format!("{form}: {name} is given twice"));
+        }
+        let value = number(value).and_then(|value| u32::try_from(value).ok());
+        let value = value.ok_or_else(|| format!("{form}: {} is no number", quoted(field)))?;
+        found[place] = Some(value);
+    }
+    let mut numbers = [0; gighull::ffi::FIELDS];
+    let place = Form::ALL.into_iter().position(|known| known == form);
+    numbers[0] = place.expect("ALL has every form") as u32;
+    for ((number, value), name) in numbers[1..].iter_mut().zip(&found).zip(names) {
+        *number = value.ok_or_else(|| format!("{form}: field {name} is missing"))?;
+    }
+    Ok(Instruction::from_numbers(numbers).expect("the form is one of six"))
+}
+
+/// The word of an instruction, or the bench's answer with the ranges. A word
+/// is the same under every feature; whether the bench then reads it is asked
+/// when it comes to run.
+pub fn written(instruction: Instruction) -> Result<u32, String> {
+    let form = instruction.form();
+    encode(Setting::FULL, instruction).map_err(|refusal| match refusal {
+        Refusal::Range => format!("{form}: {refusal} ({})", ranges(form)),
+        _ => format!("{form}: {refusal}"),
+    })
+}
+
+pub fn names() -> String {
+    Form::ALL.map(Form::name).join(", ")
+}
+
+/// Document 01's ranges for writing, for a form.
+pub const fn ranges(form: Form) -> &'static str {
+    match form {
+        Form::Pext1 => "size 8, 16, 32 or 64; imm2 0 to 3; counter 8 to 15; pd 0 to 15",
+        Form::Pext2 => "size 8, 16, 32 or 64; i1 0 or 1; counter 8 to 15; pd 0 to 15",
+        Form::Dup => {
+            "size 8, 16, 32 or 64; offset below 128/size; index 12 to 15; pg, pn, pd 0 to 15"
+        }
+        Form::Luti4c => "size 16 or 32; i1 0 or 1; zn 0 to 31; zd a multiple of 4 up to 28",
+        Form::Luti4s => "size 16; i1 0 or 1; zn 0 to 31; zd 0 to 3 or 16 to 19",
+        Form::Uqrshrnb => "size 8, 16 or 32; shift 1 to size; zn, zd 0 to 31",
+    }
+}
+
+#[cfg(test)]
+mod tests {
+    use super::*;
+
+    #[test]
+    fn words() {
+        assert_eq!(word("45283801"), Ok(0x4528_3801));
+        assert_eq!(word("0xC08A9000"), Ok(0xc08a_9000));
+        let narrow = "uqrshrnb zd=1 zn=0 size=8 shift=8";
+        assert_eq!(word(narrow), Ok(0x4528_3801));
+        for text in [
+            "",
+            "4528380",
+            "452838011",
+            "+5283801",
+            "45283801 1",
+            "NOP",
+            "UQRSHRNB",
+            "UQRSHRNB size=8 shift=8 zn=0",
+            "UQRSHRNB size=8 shift=9 zn=0 zd=1",
+            "UQRSHRNB size=8 shift=8 zn=0 zd=1 zd=1",
+            "UQRSHRNB size=8 shift=8 zn=0 zd=1 pd=1",
+            "UQRSHRNB size=8 shift=8 zn=0 zd=4294967297",
+            "UQRSHRNB size=8 shift=8 zn zd=1",
+        ] {
+            assert!(word(text).is_err(), "{text}");
+        }
+    }
+}

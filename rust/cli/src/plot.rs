@@ -1,0 +1,158 @@
+//! A register's elements as a curve with axes, in SVG.
+
+use std::fmt::Write;
+
+/// The elements from `first` on.
+pub struct Curve {
+    pub title: String,
+    pub name: String,
+    pub first: u32,
+    pub values: Vec<u64>,
+}
+
+const WIDTH: f64 = 800.0;
+const HEIGHT: f64 = 480.0;
+const TOP: f64 = 48.0;
+const RIGHT: f64 = 28.0;
+const BOTTOM: f64 = 60.0;
+/// About the width of a digit of the labels.
+const DIGIT: f64 = 8.0;
+/// Beyond so many, points would cover the line.
+const MOST_POINTS: usize = 64;
+
+impl Curve {
+    pub fn svg(&self) -> String {
+        let greatest = self.values.iter().copied().max().unwrap_or(0);
+        let step = round_step(u128::from(greatest).div_ceil(6));
+        let highest = u128::from(greatest).div_ceil(step).max(1) * step;
+        let left = 44.0 + DIGIT * highest.to_string().len() as f64;
+        let last = self.first + self.values.len().saturating_sub(1) as u32;
+        let across = f64::from((last - self.first).max(1));
+        let x = |index: u32| left + f64::from(index - self.first) / across * (WIDTH - left - RIGHT);
+        let floor = HEIGHT - BOTTOM;
+        let y = |value: u128| floor - value as f64 / highest as f64 * (floor - TOP);
+
+        let mut svg = format!(
+            "<svg xmlns=\"http://www.w3.org/2000/svg\" width=\"{WIDTH}\" height=\"{HEIGHT}\" \
+             viewBox=\"0 0 {WIDTH} {HEIGHT}\" font-family=\"sans-serif\" font-size=\"13\">\n\
+             <rect width=\"{WIDTH}\" height=\"{HEIGHT}\" fill=\"white\"/>\n"
+        );
+        let middle = (left + WIDTH - RIGHT) / 2.0;
+        let title = escaped(&self.title);
+        let _ = writeln!(
+            svg,
+            "<text x=\"{middle:.1}\" y=\"28\" text-anchor=\"middle\" font-size=\"16\">{title}</text>"
+        );
+        let (start, end) = (left, WIDTH - RIGHT);
+        for tick in (0..).map(|n| n * step).take_while(|&tick| tick <= highest) {
+            let (label, line) = (left - 8.0, y(tick));
+            let _ = writeln!(
+                svg,
+                "<line x1=\"{start:.1}\" y1=\"{line:.1}\" x2=\"{end:.1}\" y2=\"{line:.1}\" stroke=\"#ddd\"/>\
+                 <text x=\"{label:.1}\" y=\"{:.1}\" text-anchor=\"end\">{tick}</text>",
+                line + 4.5
+            );
+        }
+        let every = round_step(u128::from(last - self.first).div_ceil(16)) as u32;
+        for tick in (self.first..=last).filter(|tick| tick.is_multiple_of(every)) {
+            let (at, label) = (x(tick), floor + 20.0);
+            let _ = writeln!(
+                svg,
+                "<line x1=\"{at:.1}\" y1=\"{floor:.1}\" x2=\"{at:.1}\" y2=\"{:.1}\" stroke=\"#333\"/>\
+                 <text x=\"{at:.1}\" y=\"{label:.1}\" text-anchor=\"middle\">{tick}</text>",
+                floor + 5.0
+            );
+        }
+        let _ = writeln!(
+            svg,
+            "<path d=\"M{start:.1} {TOP}V{floor:.1}H{end:.1}\" fill=\"none\" stroke=\"#333\"/>"
+        );
+        let below = HEIGHT - 16.0;
+        let name = escaped(&self.name);
+        let _ = writeln!(
+            svg,
+            "<text x=\"{middle:.1}\" y=\"{below:.1}\" text-anchor=\"middle\">element of {name}</text>"
+        );
+        let upright = (TOP + floor) / 2.0;
+        let _ = writeln!(
+            svg,
+            "<text transform=\"translate(20 {upright:.1}) rotate(-90)\" text-anchor=\"middle\">value</text>"
+        );
+        let points: Vec<(u32, u64)> = (self.first..).zip(self.values.iter().copied()).collect();
+        let path: Vec<String> = points
+            .iter()
+            .map(|&(index, value)| format!("{:.1},{:.1}", x(index), y(u128::from(value))))
+            .collect();
+        let _ = writeln!(
+            svg,
+            "<polyline points=\"{}\" fill=\"none\" stroke=\"#0b5fa5\" stroke-width=\"2\"/>",
+            path.join(" ")
+        );
+        if points.len() <= MOST_POINTS {
+            for (index, value) in points {
+                let (at, high) = (x(index), y(u128::from(value)));
+                let _ = writeln!(
+                    svg,
+                    "<circle cx=\"{at:.1}\" cy=\"{high:.1}\" r=\"4\" fill=\"#0b5fa5\"><title>element {index}: {value}</title></circle>"
+                );
+            }
+        }
+        svg.push_str("</svg>\n");
+        svg
+    }
+}
+
+/// The least of 1, 2, 5, 10, 20, 50, … that is not below a number.
+fn round_step(least: u128) -> u128 {
+    let mut power = 1;
+    loop {
+        for step in [power, 2 * power, 5 * power] {
+            if step >= least {
+                return step;
+            }
+        }
+        power *= 10;
+    }
+}
+
+fn escaped(text: &str) -> String {
+    text.replace('&', "&amp;")
+        .replace('<', "&lt;")
+        .replace('>', "&gt;")
+}
+
+#[cfg(test)]
+mod tests {
+    use super::*;
+
+    #[test]
+    fn steps_are_round() {
+        let steps = [0, 1, 2, 3, 6, 11, 9332, u128::from(u64::MAX) / 6].map(round_step);
+        assert_eq!(steps[..7], [1, 1, 2, 5, 10, 20, 10_000]);
+        assert_eq!(steps[7], 5_000_000_000_000_000_000);
+    }
+
+    #[test]
+    fn any_values_are_drawn() {
+        for values in [
+            vec![0],
+            vec![7],
+            vec![u64::MAX; 256],
+            (0..300).collect(),
+            vec![],
+        ] {
+            let count = values.len();
+            let curve = Curve {
+                title: "<a & b>".to_string(),
+                name: "z0.d".to_string(),
+                first: 3,
+                values,
+            };
+            let svg = curve.svg();
+            assert!(svg.ends_with("</svg>\n") && !svg.contains("NaN") && !svg.contains("inf"));
+            assert!(svg.contains("&lt;a &amp; b&gt;"));
+            let circles = if count <= MOST_POINTS { count } else { 0 };
+            assert_eq!(svg.matches("<circle").count(), circles);
+        }
+    }
+}

@@ -1,0 +1,189 @@
+//! A second, small reader of lessons, onto the reference's machine. It knows
+//! only what the lessons of this repository use, and shares no code with the
+//! command.
+
+use reference::bits;
+use reference::counter::Counter;
+use reference::encode::encode;
+use reference::instruction::{Form, Instruction};
+use reference::machine::Machine;
+use reference::run::run;
+use reference::setting::{FULL, Setting};
+
+pub struct Lesson {
+    pub setting: Setting,
+    pub start: Machine,
+    pub end: Machine,
+    pub answer: u32,
+    pub done: usize,
+    pub words: Vec<u32>,
+    pub orders: Vec<Vec<usize>>,
+}
+
+/// The lesson at a vector length, or at its own.
+pub fn lesson(text: &str, vl: Option<u32>) -> Lesson {
+    let mut setting = FULL;
+    let mut start = Machine::zero();
+    let mut words = Vec::new();
+    let mut orders = Vec::new();
+    for line in text.lines() {
+        let line = line.split('#').next().unwrap().trim();
+        let tokens: Vec<&str> = line.split_whitespace().collect();
+        match tokens.as_slice() {
+            [] | ["end"] | ["show", _] | ["flags", "v", "s", "t"] => {}
+            ["vl", own] => setting.vl = vl.unwrap_or(own.parse().unwrap()),
+            ["order", positions @ ..] => {
+                orders.push(positions.iter().map(|p| p.parse().unwrap()).collect());
+            }
+            [name, "=", "counter", counter @ ..] => {
+                let register = name.strip_prefix("pn").unwrap().parse().unwrap();
+                set_counter(&mut start, register, counter, setting.vl);
+            }
+            [name, "=", values @ ..] => set_elements(&mut start, name, values, setting.vl),
+            [form, fields @ ..] => words.push(word(form, fields)),
+        }
+    }
+    let mut end = start.clone();
+    let outcome = run(setting, &words, &mut end);
+    Lesson {
+        setting,
+        start,
+        end,
+        answer: outcome.number(),
+        done: outcome.done,
+        words,
+        orders,
+    }
+}
+
+/// The bits of an element, as the register's name and width say.
+pub fn width(letter: &str) -> usize {
+    match letter {
+        "n" => 4,
+        "b" => 8,
+        "h" => 16,
+        "s" => 32,
+        "d" => 64,
+        _ => panic!("there is no width {letter}"),
+    }
+}
+
+/// All elements of a register such as `z4.h`. A predicate must have no other
+/// bits than those of its elements.
+pub fn elements(machine: &Machine, name: &str, vl: u32) -> Vec<u64> {
+    let (register, letter) = name.split_once('.').unwrap();
+    let width = width(letter);
+    let row = if register == "zt0" {
+        machine.table()
+    } else if let Some(k) = register.strip_prefix('z') {
+        machine.vector(k.parse().unwrap(), vl)
+    } else {
+        let k = register.strip_prefix('p').unwrap().parse().unwrap();
+        let row = machine.predicate(k, vl);
+        let other = |(b, &bit): (usize, &bool)| bit && b % (width / 8) != 0;
+        assert!(!row.iter().enumerate().any(other), "{name} hides a bit");
+        return row
+            .iter()
+            .step_by(width / 8)
+            .map(|&bit| bit.into())
+            .collect();
+    };
+    (0..row.len() / width)
+        .map(|index| bits::element(&row, index, width) as u64)
+        .collect()
+}
+
+/// The sixteen bits of a counter register.
+pub fn counter_bits(machine: &Machine, register: u32, vl: u32) -> u16 {
+    Counter::in_register(&machine.predicate(register, vl)).0
+}
+
+fn set_elements(machine: &mut Machine, name: &str, values: &[&str], vl: u32) {
+    let (register, letter) = name.split_once('.').unwrap();
+    let width = width(letter);
+    let mut list = Vec::new();
+    for value in values {
+        match value.split_once("..") {
+            Some((from, to)) => {
+                let (from, to): (u128, u128) = (from.parse().unwrap(), to.parse().unwrap());
+                list.extend(from..=to);
+                list.extend((to..=from).rev());
+            }
+            None if *value == "repeat" => {
+                let count = vl as usize / width;
+                list = list.iter().copied().cycle().take(count).collect();
+            }
+            None => list.push(value.parse().unwrap()),
+        }
+    }
+    let number = |prefix| register.strip_prefix(prefix).unwrap().parse().unwrap();
+    if register == "zt0" {
+        let mut row = machine.table();
+        for (index, value) in list.into_iter().enumerate() {
+            bits::set_element(&mut row, index, width, value);
+        }
+        bits::write(&mut machine.zt0, &row);
+    } else if register.starts_with('z') {
+        let mut row = machine.vector(number('z'), vl);
+        for (index, value) in list.into_iter().enumerate().take(row.len() / width) {
+            bits::set_element(&mut row, index, width, value);
+        }
+        machine.set_vector(number('z'), &row);
+    } else {
+        let mut row = machine.predicate(number('p'), vl);
+        for (index, value) in list.into_iter().enumerate() {
+            row[index * width / 8] = value == 1;
+        }
+        machine.set_predicate(number('p'), &row);
+    }
+}
+
+/// By its bits; or the least number that expands to what the words say.
+fn set_counter(machine: &mut Machine, register: u32, told: &[&str], vl: u32) {
+    let bits = match told {
+        [bits] => u16::from_str_radix(bits.strip_prefix("0x").unwrap(), 16).unwrap(),
+        [letter, rest @ ..] => {
+            let (count, first) = match rest {
+                ["first", count] => (count.parse().unwrap(), true),
+                ["all", "but", count] => (count.parse().unwrap(), false),
+                _ => panic!("the lessons have no {rest:?}"),
+            };
+            let stride = width(letter) / 8;
+            let wanted = |(b, bit): (usize, &bool)| {
+                *bit == (b % stride == 0 && (b / stride < count) == first)
+            };
+            let found = (1..=u16::MAX).find(|&bits| {
+                bits & 15 != 0
+                    && 1 << bits.trailing_zeros() == stride
+                    && Counter(bits).expand(vl).iter().enumerate().all(wanted)
+            });
+            found.unwrap()
+        }
+        [] => panic!("a counter says something"),
+    };
+    let mut row = machine.predicate(register, vl);
+    bits::set_element(&mut row, 0, 16, bits.into());
+    machine.set_predicate(register, &row);
+}
+
+fn word(name: &str, fields: &[&str]) -> u32 {
+    let form = Form::ALL.into_iter().find(|form| form.name() == name);
+    let form = form.unwrap_or_else(|| panic!("the lessons have no line {name}"));
+    let order: &[&str] = match form {
+        Form::Pext1 => &["size", "imm2", "counter", "pd"],
+        Form::Pext2 => &["size", "i1", "counter", "pd"],
+        Form::Dup => &["size", "offset", "index", "pg", "pn", "pd"],
+        Form::Luti4c | Form::Luti4s => &["size", "i1", "zn", "zd"],
+        Form::Uqrshrnb => &["size", "shift", "zn", "zd"],
+    };
+    assert_eq!(fields.len(), order.len());
+    let mut numbers = [0; 6];
+    for (number, name) in numbers.iter_mut().zip(order) {
+        let field = fields.iter().find_map(|field| {
+            let (given, value) = field.split_once('=')?;
+            (given == *name).then(|| value.parse().unwrap())
+        });
+        *number = field.unwrap();
+    }
+    encode(FULL, Instruction::from_fields(form, numbers)).unwrap()
+}
