@@ -32,6 +32,11 @@ pub(crate) fn answer(setting: Setting, first: &[u32; 9]) -> bool {
         rest[8],
         rest[9],
     ];
-    let line = machines::answer(setting, &start, Task::Run, numbers::prefix(&words, rest[10]));
+    let line = machines::answer(
+        setting,
+        &start,
+        Task::Run,
+        numbers::prefix(&words, rest[10]),
+    );
     numbers::write(&line)
 }
