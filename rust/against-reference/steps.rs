@@ -16,8 +16,8 @@ fn step_questions_of_three_seeds() {
     let mut counts = [0; 10];
     for seed in [1, 2, 3] {
         for question in step_questions::generate(seed) {
-            let mut machine = question.machine();
-            let number = same_step(question.setting, question.word, &mut machine);
+            let mut machine = question.start.machine();
+            let number = same_step(question.start.setting, question.word, &mut machine);
             counts[number as usize] += 1;
         }
     }
