@@ -3,6 +3,7 @@
 mod support;
 
 use std::fs;
+use std::io::Read;
 use std::path::Path;
 
 use support::{ROOT, complaint, folder, gighull, gighull_in, names_in, out, told, wrong};
@@ -300,10 +301,15 @@ fn files_are_whole_or_not_there() {
     assert_eq!(run(&path("both"), &path("both")).status.code(), Some(1));
     assert_eq!(names_in(&folder), ["saved"]);
     assert_eq!(fs::read_to_string(path("saved")).unwrap(), "old");
+    let mut before = fs::File::open(path("saved")).unwrap();
     assert_eq!(
         run(&path("saved"), &path("curve.svg")).status.code(),
         Some(0)
     );
+    // Who reads the old file meanwhile reads it whole: it is another file.
+    let mut old = String::new();
+    before.read_to_string(&mut old).unwrap();
+    assert_eq!(old, "old");
     assert_eq!(names_in(&folder), ["curve.svg", "saved"]);
     // What was saved is a lesson; it starts where the other ended, and saved
     // again it is the same.
