@@ -118,7 +118,7 @@ fn moved(
     let scalars = scalars_of(start);
     match task {
         Task::Step(word) => {
-            let left = machine::step(z, p, zt, scalars, setting, word);
+            let left = console::step_through(z, p, zt, scalars, setting, word);
             let answer = left.answer;
             let scalars = left.scalars;
             Ran {
