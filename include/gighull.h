@@ -78,9 +78,9 @@ size_t gighull_vector(const uint8_t *file, size_t file_len, uint32_t vl, uint32_
 size_t gighull_predicate(const uint8_t *file, size_t file_len, uint32_t vl, uint32_t register_number, uint8_t *out,
                          size_t out_len);
 
-/* The listing of records of four bytes, at the start of `out`. Reads as many records as `out` has 19 bytes for, and
- * where that is all of them, the bytes left over too. Answers how many bytes were read; `*written` is the length of the
- * text. The rest of `out` stays. */
+/* The listing of records of four bytes, at the start of `out`. Reads four bytes of `input` for each 19 that `out` has, the
+ * length of the longest line, so one to three bytes left over are listed where `out` has 19 bytes for them too. Answers
+ * how many bytes were read; `*written` is the length of the text. The rest of `out` stays. */
 size_t gighull_lines(const uint8_t *input, size_t input_len, uint8_t *out, size_t out_len, size_t *written);
 
 #ifdef __cplusplus
