@@ -4,9 +4,8 @@ use mathlib.Core.Bool.{Bool}
 use mathlib.Core.List.{List, [], _∷_}
 use Prim.Native.Nat.{ℕ, zero, suc, _+_, _-_, _*_, _/_, _%_, _^_, _<_}
 use native.Mathlib.Nat.{mod-eq-of-lt, mul-left-comm, pow-succ'}
-use native.Mathlib.Numerals.{add-one}
 use native.Mathlib.Omega.{arith}
-use lib.ListN.{set}
+use lib.ListN.{length}
 use lib.Pow.{high, low}
 use Rattle.element.specs.Contents.{bytes, elem, fill, gather, octet, row}
 use Rattle.element.specs.Units.{Log}
@@ -16,6 +15,7 @@ use Rattle.element.proofs.Units.{unit, low-bits}
 use Rattle.counter.specs.Portion.{portionOf}
 use Rattle.counter.specs.Strips.{stripBit}
 use Rattle.counter.proofs.Parts.{portion-strip}
+use Rattle.part.specs.Parts.{storedOf}
 use Rattle.predicate.specs.Pext.{pextSlots}
 use Rattle.predicate.proofs.Portions.{one-more}
 
@@ -78,10 +78,14 @@ pair-is size p c s x l h e =
     ∙ sym (two-octets (stripBit 128 c s (p * 16)))
     ∙ portion-strip 128 size p c s refl l
 
--- the two stores
-pub two-stores : (k x : ℕ) (f : List ℕ) → set (set f (32 * k) (x % 256)) (32 * k + 1) (x / 256 % 256) ≡ setSlot 32 2 k (bytes 2 x) f
-unfolding setSlot bytes
-two-stores k x f = rw add-one
+-- a part of two bytes with a number stored is the number's low two bytes
+pub stored-two : (o : List ℕ) (x : ℕ) → length o ≡ 2 → storedOf o x ≡ bytes 2 x
+unfolding storedOf
+stored-two o x e = rw e
+
+pub two-long : (x : ℕ) → length (bytes 2 x) ≡ 2
+unfolding bytes
+two-long x = refl
 
 -- one more portion, k being its register and m its number
 pub pair-more : (size first pd n s c x k m : ℕ) (cs f p q : List ℕ)

@@ -68,9 +68,8 @@ fn put_pair(p: &mut [u8], x: u64, portion: u32, pd: u32)
 {
     let y = x >> (16 * portion);
     let d = 32 * (pd as usize);
-    let e = d + 1;
-    p[d] = (y % 256) as u8;
-    p[e] = (y / 256 % 256) as u8;
+    let e = d + 2;
+    part::write(&mut p[d..e], y);
 }
 
 // At VL 128 a portion is sixteen bits, and all four are one number.

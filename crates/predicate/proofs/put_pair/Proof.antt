@@ -1,9 +1,11 @@
--- `put_pair` meets its contract: the two bytes are the slot's.
-use native.Mathlib.Omega.{arith}
-use lib.ListN.{length-set}
+-- `put_pair` meets its contract: the slot comes back with the low two bytes of what is left of x.
+use mathlib.Core.Path.{_∙_}
 use Prim.Native.Nat.{_*_, _/_, _^_}
+use native.Mathlib.Omega.{arith}
+use Rattle.element.specs.Contents.{bytes}
+use Rattle.element.proofs.Slots.{part-length, put-back}
+use Rattle.predicate.proofs.Pairs.{stored-two, two-long}
 use borrow.Author.Needs.{needs}
-use Rattle.predicate.proofs.Pairs.{two-stores}
 use Rattle.predicate.proofs.put_pair.Statement.{statement}
 use Rattle.predicate.proofs.put_pair.Tie as tie
 
@@ -22,23 +24,25 @@ mul-d c = search needs
 add-e : tie.Need-add-e
 add-e c = search needs
 
-cast-p : tie.Need-cast-p
-cast-p c = search needs
+sub-write : tie.Need-sub-write
+sub-write c = search needs
 
-slice-write-p : tie.Need-slice-write-p
-slice-write-p c = search needs
+part-write-start : tie.Need-part-write-start
+part-write-start c = search needs
 
-cast-p-2 : tie.Need-cast-p-2
-cast-p-2 c = search needs
+part-write-end : tie.Need-part-write-end
+part-write-end c = search needs
 
-slice-write-p-2 : tie.Need-slice-write-p-2
-slice-write-p-2 c = simp length-set (omega arith)
+write-requires : tie.Need-write-requires
+write-requires c κs = search needs
 
 same-length : tie.Need-same-length
 same-length c = search needs
 
 returns : tie.Need-returns
-returns c = two-stores (c .args .pd) (c .args .x / 2 ^ (16 * c .args .portion)) (c .args .p .now)
+returns c = let a = c .before .before .before .before .before .args in
+    let y = a .x / 2 ^ (16 * a .portion) in
+    put-back 32 2 (a .pd) (a .p .now) _ (bytes 2 y) (omega arith) (two-long y) (c .before .before .write .ensures ∙ stored-two _ y (part-length 32 2 (a .pd) (a .p .now) (omega arith)))
 
 pub put-pair-spec : {M : Type 1} → statement M
 put-pair-spec =
@@ -49,9 +53,9 @@ put-pair-spec =
     shr-y
     mul-d
     add-e
-    cast-p
-    slice-write-p
-    cast-p-2
-    slice-write-p-2
+    sub-write
+    part-write-start
+    part-write-end
+    write-requires
     same-length
     returns)
