@@ -7,7 +7,7 @@ use std::time::Duration;
 
 use gighull::ffi;
 use reference::instruction::Form;
-use reference::layout::{LAYOUTS, form_by_fixed_bits};
+use reference::layout::LAYOUTS;
 use reference::refusal::number_of;
 use reference::samples::spread;
 use reference::setting::{Setting, VECTOR_LENGTHS};
@@ -91,57 +91,30 @@ fn join(accepted: &Mutex<Accepted>, own: &Accepted) {
     }
 }
 
-/// The case that differs, for `Found` to look at.
-///
-/// Of a word with no layout's fixed bits, which is nearly every word, the
-/// reference is asked under one feature number, by turns: it looks at the
-/// layouts before it looks at features. The library is asked under all.
+/// Both programs on one word, under each allowed feature number. A refused word
+/// leaves the fields as they were.
 #[inline]
 fn one_word(vl: u32, word: u32, accepted: &mut Accepted) -> Result<(), Box<Case>> {
-    // Lent to every reading that is to be refused, and looked at once.
-    let mut untouched = MARK;
-    if form_by_fixed_bits(word).is_none() {
-        let features = ALLOWED_FEATURES[word as usize % ALLOWED_FEATURES.len()];
-        let number = number_of(&reference::decode::decode(Setting { vl, features }, word));
-        for features in ALLOWED_FEATURES {
-            if ffi::decode(vl, features, word, &mut untouched) != number {
-                return Err(reading(Setting { vl, features }, word));
+    for (features, counts) in ALLOWED_FEATURES.into_iter().zip(accepted) {
+        let setting = Setting { vl, features };
+        let expected = match reference::decode::decode(setting, word) {
+            Ok(instruction) => {
+                counts[instruction.form().number() as usize - 1] += 1;
+                (0, numbers(instruction))
             }
-        }
-    } else {
-        for (place, features) in ALLOWED_FEATURES.into_iter().enumerate() {
-            let setting = Setting { vl, features };
-            let equal = match reference::decode::decode(setting, word) {
-                Ok(instruction) => {
-                    accepted[place][instruction.form().number() as usize - 1] += 1;
-                    let mut fields = MARK;
-                    let found = ffi::decode(vl, features, word, &mut fields);
-                    found == 0 && fields == numbers(instruction)
-                }
-                Err(refusal) => ffi::decode(vl, features, word, &mut untouched) == refusal.number(),
-            };
-            if !equal {
-                return Err(reading(setting, word));
-            }
+            Err(refusal) => (refusal.number(), MARK),
+        };
+        let mut fields = MARK;
+        let number = ffi::decode(vl, features, word, &mut fields);
+        if (number, fields) != expected {
+            return Err(Box::new(Case::Decode {
+                setting,
+                word,
+                room: ffi::FIELDS,
+            }));
         }
     }
-    if untouched == MARK {
-        return Ok(());
-    }
-    let settings = ALLOWED_FEATURES.map(|features| Setting { vl, features });
-    let readings = settings.map(|setting| reading(setting, word));
-    let left = readings
-        .into_iter()
-        .find(|case| crate::check::check(case).is_err());
-    Err(left.expect("one of them left something in the fields"))
-}
-
-fn reading(setting: Setting, word: u32) -> Box<Case> {
-    Box::new(Case::Decode {
-        setting,
-        word,
-        room: ffi::FIELDS,
-    })
+    Ok(())
 }
 
 /// How many questions had each answer.
