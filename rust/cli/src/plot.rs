@@ -115,7 +115,8 @@ fn round_step(least: u128) -> u128 {
     }
 }
 
-fn escaped(text: &str) -> String {
+/// A text for SVG, between tags.
+pub fn escaped(text: &str) -> String {
     text.replace('&', "&amp;")
         .replace('<', "&lt;")
         .replace('>', "&gt;")

@@ -1,8 +1,11 @@
 //! What the drivers share: where two texts differ, the middle of some times,
-//! and how to fail.
+//! and how to fail; and what `speedplot` reads and draws.
 
 use std::io::Write;
 use std::process::ExitCode;
+
+pub mod ratio_plot;
+pub mod ratios;
 
 /// The first line that two texts do not have alike.
 #[derive(Debug, PartialEq, Eq)]

@@ -1,5 +1,6 @@
 //! The drivers on programs that are no listers, so that they must notice.
 
+use std::fs;
 use std::process::{Command, Output};
 
 fn listcheck(arguments: &[&str]) -> Output {
@@ -18,6 +19,13 @@ fn listspeed(arguments: &[&str]) -> Output {
 
 fn stepspeed(arguments: &[&str]) -> Output {
     Command::new(env!("CARGO_BIN_EXE_stepspeed"))
+        .args(arguments)
+        .output()
+        .unwrap()
+}
+
+fn speedplot(arguments: &[&str]) -> Output {
+    Command::new(env!("CARGO_BIN_EXE_speedplot"))
         .args(arguments)
         .output()
         .unwrap()
@@ -97,6 +105,27 @@ fn stepspeed_has_a_line_for_each_form_and_length() {
 }
 
 #[test]
+fn speedplot_writes_all_or_nothing() {
+    let folder = format!("{}/speedplot", env!("CARGO_TARGET_TMPDIR"));
+    let _ = fs::remove_dir_all(&folder);
+    fs::create_dir(&folder).unwrap();
+    let (table, plot) = (format!("{folder}/table.md"), format!("{folder}/plot.svg"));
+    let good = "| form | VL | median | bar |\n|---|---|---|---|\n| A | 128 | 0.5 | inf |\n";
+    fs::write(&table, good).unwrap();
+    let output = speedplot(&[&table, &plot]);
+    assert!(output.status.success() && output.stdout.is_empty());
+    let drawn = fs::read(&plot).unwrap();
+    assert!(drawn.ends_with(b"</svg>\n"));
+    fs::write(&table, good.replace("0.5", "0,5")).unwrap();
+    let output = speedplot(&[&table, &plot]);
+    assert_eq!(output.status.code(), Some(1));
+    let line = text(&output.stderr);
+    assert!(line.ends_with("line 3: \"0,5\" is no ratio\n"), "{line}");
+    assert_eq!(fs::read(&plot).unwrap(), drawn);
+    assert_eq!(fs::read_dir(&folder).unwrap().count(), 2);
+}
+
+#[test]
 fn wrong_use_is_one_line_and_a_status() {
     let outputs = [
         listcheck(&[]),
@@ -108,6 +137,9 @@ fn wrong_use_is_one_line_and_a_status() {
         listspeed(&["cat", "no-such-program", "Cargo.toml"]),
         stepspeed(&["0"]),
         stepspeed(&["1", "1"]),
+        speedplot(&["Cargo.toml"]),
+        speedplot(&["Cargo.toml", "no-such-folder/plot.svg"]),
+        speedplot(&["no-such-file", "no-such-folder/plot.svg"]),
     ];
     for output in outputs {
         assert!(!output.status.success());
