@@ -23,17 +23,19 @@
 //! # Ok::<(), gighull::Refusal>(())
 //! ```
 
+mod element;
 pub mod ffi;
 mod instruction;
 mod machine;
 mod refusal;
+mod scalars;
 mod setting;
 
+pub use element::NoPlace;
 pub use ffi::{Scalars, step};
 pub use instruction::{Form, Instruction};
 pub use machine::{
-    Machine, NoPlace, P_FILE_BYTES, P_REGISTERS, Z_FILE_BYTES, Z_REGISTERS, ZT0_ENTRIES,
-    ZT0_FILE_BYTES,
+    Machine, P_FILE_BYTES, P_REGISTERS, Z_FILE_BYTES, Z_REGISTERS, ZT0_ENTRIES, ZT0_FILE_BYTES,
 };
 pub use refusal::{Answer, Refusal, Stopped};
 pub use setting::{Setting, features};
