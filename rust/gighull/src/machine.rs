@@ -109,15 +109,10 @@ impl Machine {
     /// assert_eq!(machine.scalars.pc, 4);
     /// ```
     pub fn step(&mut self, setting: Setting, word: u32) -> Answer {
-        let number = ffi::step(
-            &mut self.z[..],
-            &mut self.p[..],
-            &mut self.zt0,
-            &mut self.scalars,
-            setting.vl,
-            setting.features,
-            word,
-        );
+        let Setting { vl, features } = setting;
+        let Machine { z, p, zt0, scalars } = self;
+        let (z, p) = (&mut z[..], &mut p[..]);
+        let number = ffi::step(z, p, zt0, scalars, vl, features, word);
         Refusal::answer(number)
     }
 
@@ -135,16 +130,10 @@ impl Machine {
     /// ```
     pub fn run(&mut self, setting: Setting, words: &[u32]) -> Result<usize, Stopped> {
         let mut done = 0;
-        let number = ffi::run(
-            &mut self.z[..],
-            &mut self.p[..],
-            &mut self.zt0,
-            &mut self.scalars,
-            setting.vl,
-            setting.features,
-            words,
-            &mut done,
-        );
+        let Setting { vl, features } = setting;
+        let Machine { z, p, zt0, scalars } = self;
+        let (z, p) = (&mut z[..], &mut p[..]);
+        let number = ffi::run(z, p, zt0, scalars, vl, features, words, &mut done);
         match Refusal::answer(number) {
             Ok(()) => Ok(done),
             Err(refusal) => Err(Stopped { refusal, done }),

@@ -76,10 +76,10 @@ impl Lent {
 
 /// A machine lent to the library.
 pub struct LentMachine {
-    pub z: Lent,
-    pub p: Lent,
-    pub zt0: Lent,
-    pub scalars: Scalars,
+    z: Lent,
+    p: Lent,
+    zt0: Lent,
+    scalars: Scalars,
 }
 
 impl LentMachine {
@@ -102,6 +102,12 @@ impl LentMachine {
                 t,
             },
         }
+    }
+
+    /// Z, P, ZT0 and the scalars.
+    pub fn lend(&mut self) -> (&mut [u8], &mut [u8], &mut [u8], &mut Scalars) {
+        let LentMachine { z, p, zt0, scalars } = self;
+        (z.lend(), p.lend(), zt0.lend(), scalars)
     }
 
     pub fn same_as(&self, expected: &Machine) -> Result<(), String> {

@@ -100,15 +100,9 @@ fn step(setting: Setting, word: u32, machine: &Machine) -> Checked {
     let mut expected = machine.clone();
     let number = number_of(&reference::step::step(setting, word, &mut expected));
     let mut lent = LentMachine::of(machine);
-    let found = ffi::step(
-        lent.z.lend(),
-        lent.p.lend(),
-        lent.zt0.lend(),
-        &mut lent.scalars,
-        setting.vl,
-        setting.features,
-        word,
-    );
+    let Setting { vl, features } = setting;
+    let (z, p, zt0, scalars) = lent.lend();
+    let found = ffi::step(z, p, zt0, scalars, vl, features, word);
     same("answer", number, found)?;
     lent.same_as(&expected)?;
     agreed(number)
@@ -119,16 +113,9 @@ fn run(setting: Setting, words: &[u32], machine: &Machine) -> Checked {
     let outcome = reference::run::run(setting, words, &mut expected);
     let mut lent = LentMachine::of(machine);
     let mut done = usize::MAX;
-    let found = ffi::run(
-        lent.z.lend(),
-        lent.p.lend(),
-        lent.zt0.lend(),
-        &mut lent.scalars,
-        setting.vl,
-        setting.features,
-        words,
-        &mut done,
-    );
+    let Setting { vl, features } = setting;
+    let (z, p, zt0, scalars) = lent.lend();
+    let found = ffi::run(z, p, zt0, scalars, vl, features, words, &mut done);
     same(
         "answer and words done",
         (outcome.number(), outcome.done),
