@@ -22,6 +22,7 @@ fn step_questions_of_three_seeds() {
         }
     }
     assert!(counts[..7].iter().all(|&count| count > 0), "{counts:?}");
+    assert_eq!(counts[7..], [0; 3]);
 }
 
 /// Words on one machine that goes on, so that each finds what others left;

@@ -1,18 +1,17 @@
-//! The proved library, over its C interface, against the reference.
+//! The proved library, over its C interface, against the reference: words and
+//! instructions, register bytes and listings. Steps and runs are in
+//! `interpreter.rs`.
 
-use gighull::Scalars;
 use gighull::ffi;
 use reference::encode::encode;
 use reference::instruction::{Form, Instruction};
-use reference::machine::{Flags, Machine};
 use reference::random::Random;
 use reference::refusal::number_of;
 use reference::samples::{
     failing_word, fields_in_range, listing_words, matching_word, near_miss, values_outside,
 };
 use reference::setting::{ALL_FEATURES, Setting, VECTOR_LENGTHS};
-use reference::step_questions;
-use reference::stretches::{any_machine, any_setting};
+use reference::stretches::any_setting;
 
 fn raw_encode(vl: u32, features: u32, numbers: &[u32]) -> (u32, u32) {
     let mut word = 77;
@@ -24,77 +23,6 @@ fn raw_lines(input: &[u8], out: &mut [u8]) -> (usize, usize) {
     let mut written = 77;
     let read = ffi::lines(input, out, &mut written);
     (read, written)
-}
-
-fn any_flags(random: &mut Random) -> Flags {
-    let [v, s, t] = [(); 3].map(|()| random.below(8) != 0);
-    Flags { v, s, t }
-}
-
-/// Both do the word and must agree; the machine is left as they leave it.
-fn same_step(setting: Setting, word: u32, machine: &mut Machine) -> u32 {
-    let mut ours = machine.clone();
-    let [w12, w13, w14, w15] = ours.w;
-    let Flags { v, s, t } = ours.flags;
-    let mut scalars = Scalars {
-        w12,
-        w13,
-        w14,
-        w15,
-        pc: ours.pc,
-        v,
-        s,
-        t,
-    };
-    let our_number = ffi::step(
-        &mut ours.z,
-        &mut ours.p,
-        &mut ours.zt0,
-        &mut scalars,
-        setting.vl,
-        setting.features,
-        word,
-    );
-    ours.w = [scalars.w12, scalars.w13, scalars.w14, scalars.w15];
-    ours.pc = scalars.pc;
-    let (v, s, t) = (scalars.v, scalars.s, scalars.t);
-    ours.flags = Flags { v, s, t };
-    let number = number_of(&reference::step::step(setting, word, machine));
-    assert_eq!(our_number, number, "{word:08x} under {setting:?}");
-    assert!(ours == *machine, "{word:08x} under {setting:?}");
-    number
-}
-
-#[test]
-fn step_questions_of_three_seeds() {
-    let mut counts = [0; 10];
-    for seed in [1, 2, 3] {
-        for question in step_questions::generate(seed) {
-            let mut machine = question.start.machine();
-            let number = same_step(question.start.setting, question.word, &mut machine);
-            counts[number as usize] += 1;
-        }
-    }
-    assert!(counts[..7].iter().all(|&count| count > 0), "{counts:?}");
-    assert_eq!(counts[7..], [0; 3]);
-}
-
-/// Words on one machine that goes on, so that each finds what others left.
-#[test]
-fn any_words_in_a_row() {
-    let mut random = Random::new(61);
-    let mut machine = any_machine(&mut random);
-    let mut done = 0;
-    for word in listing_words(62, 20_000) {
-        if random.below(20) == 0 {
-            machine = any_machine(&mut random);
-        }
-        let setting = any_setting(&mut random);
-        machine.flags = any_flags(&mut random);
-        machine.w[random.below(4) as usize] = random.next_u32();
-        done += u32::from(same_step(setting, word, &mut machine) == 0);
-    }
-    assert!(done > 4000, "{done}");
 }
 
 /// Settings, some of them not allowed: 65664 is 128 in its low 16 bits.
