@@ -1,16 +1,14 @@
 //! The program as it is called.
 
-use std::process::{Command, Output};
+#[path = "../../called/mod.rs"]
+mod called;
+
+use std::process::Output;
+
+use called::{called, complained, text};
 
 fn compare(arguments: &[&str]) -> Output {
-    Command::new(env!("CARGO_BIN_EXE_compare"))
-        .args(arguments)
-        .output()
-        .unwrap()
-}
-
-fn text(bytes: &[u8]) -> String {
-    String::from_utf8(bytes.to_vec()).unwrap()
+    called(env!("CARGO_BIN_EXE_compare"), arguments)
 }
 
 #[test]
@@ -86,7 +84,6 @@ fn wrong_use_is_one_line_and_status_2() {
     ] {
         let output = compare(arguments);
         assert_eq!(output.status.code(), Some(2), "{arguments:?}");
-        assert!(output.stdout.is_empty());
-        assert_eq!(text(&output.stderr).matches('\n').count(), 1);
+        assert!(complained(&output), "{output:?}");
     }
 }

@@ -1,38 +1,27 @@
 //! The drivers on programs that are no listers, so that they must notice.
 
+#[path = "../../called/mod.rs"]
+mod called;
+
 use std::fs;
-use std::process::{Command, Output};
+use std::process::Output;
+
+use called::{called, complained, text};
 
 fn listcheck(arguments: &[&str]) -> Output {
-    Command::new(env!("CARGO_BIN_EXE_listcheck"))
-        .args(arguments)
-        .output()
-        .unwrap()
+    called(env!("CARGO_BIN_EXE_listcheck"), arguments)
 }
 
 fn listspeed(arguments: &[&str]) -> Output {
-    Command::new(env!("CARGO_BIN_EXE_listspeed"))
-        .args(arguments)
-        .output()
-        .unwrap()
+    called(env!("CARGO_BIN_EXE_listspeed"), arguments)
 }
 
 fn stepspeed(arguments: &[&str]) -> Output {
-    Command::new(env!("CARGO_BIN_EXE_stepspeed"))
-        .args(arguments)
-        .output()
-        .unwrap()
+    called(env!("CARGO_BIN_EXE_stepspeed"), arguments)
 }
 
 fn speedplot(arguments: &[&str]) -> Output {
-    Command::new(env!("CARGO_BIN_EXE_speedplot"))
-        .args(arguments)
-        .output()
-        .unwrap()
-}
-
-fn text(bytes: &[u8]) -> String {
-    String::from_utf8(bytes.to_vec()).unwrap()
+    called(env!("CARGO_BIN_EXE_speedplot"), arguments)
 }
 
 #[test]
@@ -142,8 +131,6 @@ fn wrong_use_is_one_line_and_a_status() {
         speedplot(&["no-such-file", "no-such-folder/plot.svg"]),
     ];
     for output in outputs {
-        assert!(!output.status.success());
-        assert!(output.stdout.is_empty());
-        assert_eq!(text(&output.stderr).matches('\n').count(), 1);
+        assert!(complained(&output), "{output:?}");
     }
 }
