@@ -1,9 +1,6 @@
 //! Many cases on some threads.
 
 use std::sync::Mutex;
-use std::sync::atomic::{AtomicBool, AtomicU64, Ordering};
-use std::thread;
-use std::time::Duration;
 
 use reference::instruction::Form;
 use reference::layout::form_by_fixed_bits;
@@ -11,8 +8,8 @@ use reference::layout::form_by_fixed_bits;
 use crate::case::{Case, Kind};
 use crate::check::{Agreed, check};
 use crate::draw::{draw, random_of};
-use crate::progress::Progress;
 use crate::shrink::shrink;
+use crate::threads::spread_over;
 
 /// How many cases there were, by what both answered.
 #[derive(Clone, Debug, Default)]
@@ -96,51 +93,23 @@ impl Found {
 const CHUNK: u64 = 64;
 
 pub fn campaign(kind: Kind, seed: u64, count: u64, threads: usize) -> Result<Tally, Box<Found>> {
-    let next = AtomicU64::new(0);
-    let done = AtomicU64::new(0);
-    let working = AtomicU64::new(threads as u64);
-    let stop = AtomicBool::new(false);
-    let found: Mutex<Option<(u64, Case, String)>> = Mutex::new(None);
     let tally = Mutex::new(Tally::default());
-    let work = || {
+    let chunks = count.div_ceil(CHUNK);
+    let done = spread_over(threads, kind.name(), chunks, count, |chunk| {
         let mut own = Tally::default();
-        while !stop.load(Ordering::Relaxed) {
-            let from = next.fetch_add(CHUNK, Ordering::Relaxed);
-            if from >= count {
-                break;
+        for index in chunk * CHUNK..count.min((chunk + 1) * CHUNK) {
+            let case = draw(kind, &mut random_of(seed, kind, index));
+            match check(&case) {
+                Ok(agreed) => own.add(&case, agreed),
+                Err(difference) => return Err(Box::new((index, case, difference))),
             }
-            let to = (from + CHUNK).min(count);
-            for index in from..to {
-                let case = draw(kind, &mut random_of(seed, kind, index));
-                match check(&case) {
-                    Ok(agreed) => own.add(&case, agreed),
-                    Err(difference) => {
-                        stop.store(true, Ordering::Relaxed);
-                        let mut found = found.lock().unwrap();
-                        if found.as_ref().is_none_or(|(other, ..)| index < *other) {
-                            *found = Some((index, case, difference));
-                        }
-                        break;
-                    }
-                }
-            }
-            done.fetch_add(to - from, Ordering::Relaxed);
         }
         tally.lock().unwrap().join(&own);
-        working.fetch_sub(1, Ordering::Relaxed);
-    };
-    thread::scope(|scope| {
-        for _ in 0..threads {
-            scope.spawn(work);
-        }
-        let mut progress = Progress::new(kind.name(), count);
-        while working.load(Ordering::Relaxed) > 0 {
-            thread::sleep(Duration::from_millis(5));
-            progress.at(done.load(Ordering::Relaxed));
-        }
+        Ok(())
     });
-    match found.into_inner().unwrap() {
-        None => Ok(tally.into_inner().unwrap()),
-        Some((index, case, difference)) => Err(Box::new(Found::of(index, &case, difference))),
-    }
+    done.map_err(|found| {
+        let (index, case, difference) = *found;
+        Box::new(Found::of(index, &case, difference))
+    })?;
+    Ok(tally.into_inner().unwrap())
 }

@@ -4,9 +4,9 @@
 //! - [`check`]: puts it to both and says where they differ
 //! - [`draw`]: seeded cases, random and structured, sound and damaged
 //! - [`shrink`](mod@shrink): a smaller case that still differs
-//! - [`campaign`]: many cases on some threads
+//! - [`campaign`](mod@campaign): many cases on some threads
 //! - [`sweep`]: all words, and all fields
-//! - [`progress`]: a line on stderr
+//! - [`threads`]: what these share, work in chunks; [`progress`]: a line on stderr
 
 pub mod campaign;
 pub mod case;
@@ -15,3 +15,4 @@ pub mod draw;
 pub mod progress;
 pub mod shrink;
 pub mod sweep;
+pub mod threads;

@@ -1,9 +1,6 @@
 //! All words, and all fields: both programs on every one of them.
 
 use std::sync::Mutex;
-use std::sync::atomic::{AtomicBool, AtomicU64, Ordering};
-use std::thread;
-use std::time::Duration;
 
 use gighull::ffi;
 use reference::instruction::Form;
@@ -14,9 +11,9 @@ use reference::setting::{Setting, VECTOR_LENGTHS};
 
 use crate::campaign::Found;
 use crate::case::Case;
-use crate::check::{numbers, reference_encode};
+use crate::check::{check, numbers, reference_encode};
 use crate::draw::ALLOWED_FEATURES;
-use crate::progress::Progress;
+use crate::threads::spread_over;
 
 /// How many words are read as each form under each allowed feature number.
 pub type Accepted = [[u64; 6]; ALLOWED_FEATURES.len()];
@@ -29,13 +26,14 @@ pub fn decode(from: u32, to: u32, threads: usize) -> Result<Accepted, Box<Found>
     const CHUNK: u64 = 1 << 16;
     let first = u64::from(from) / CHUNK;
     let chunks = u64::from(to) / CHUNK - first + 1;
+    let total = u64::from(to - from) + 1;
     let accepted = Mutex::new(Accepted::default());
     let words = |chunk: u64| {
         let start = (first + chunk) * CHUNK;
         let start = start.max(u64::from(from)) as u32;
         start..=to.min(start | (CHUNK - 1) as u32)
     };
-    spread_over(threads, "sweep-decode", chunks, CHUNK, |chunk| {
+    let done = spread_over(threads, "sweep-decode", chunks, total, |chunk| {
         let vl = VECTOR_LENGTHS[(chunk % 5) as usize];
         let mut own = Accepted::default();
         for word in words(chunk) {
@@ -43,7 +41,8 @@ pub fn decode(from: u32, to: u32, threads: usize) -> Result<Accepted, Box<Found>
         }
         join(&accepted, &own);
         Ok(())
-    })?;
+    });
+    done.map_err(found)?;
     Ok(accepted.into_inner().unwrap())
 }
 
@@ -68,7 +67,7 @@ pub fn near(threads: usize) -> Result<(u64, Accepted), Box<Found>> {
     }
     let accepted = Mutex::new(Accepted::default());
     let count = chunks.len() as u64;
-    spread_over(threads, "near", count, u64::from(PART), |chunk| {
+    let done = spread_over(threads, "near", count, words, |chunk| {
         let (layout, turn, fields) = chunks[chunk as usize].clone();
         let vl = VECTOR_LENGTHS[(chunk % 5) as usize];
         let mut own = Accepted::default();
@@ -78,7 +77,8 @@ pub fn near(threads: usize) -> Result<(u64, Accepted), Box<Found>> {
         }
         join(&accepted, &own);
         Ok(())
-    })?;
+    });
+    done.map_err(found)?;
     Ok((words, accepted.into_inner().unwrap()))
 }
 
@@ -89,6 +89,12 @@ fn join(accepted: &Mutex<Accepted>, own: &Accepted) {
             *sum += count;
         }
     }
+}
+
+fn found(case: Box<Case>) -> Box<Found> {
+    let difference = check(&case).err();
+    let difference = difference.unwrap_or_else(|| "seen in the sweep alone".into());
+    Box::new(Found::of(0, &case, difference))
 }
 
 /// Both programs on one word, under each allowed feature number. A refused word
@@ -125,8 +131,9 @@ pub type Answers = [u64; 10];
 pub fn encode(threads: usize) -> Result<Answers, Box<Found>> {
     let grids: Vec<Grid> = Form::ALL.into_iter().map(Grid::of).collect();
     let chunks: u64 = grids.iter().map(Grid::chunks).sum();
+    let total = grids.iter().map(|grid| grid.count).sum();
     let answers = Mutex::new(Answers::default());
-    spread_over(threads, "sweep-encode", chunks, Grid::CHUNK, |chunk| {
+    let done = spread_over(threads, "sweep-encode", chunks, total, |chunk| {
         let mut rest = chunk;
         let grid = grids
             .iter()
@@ -148,7 +155,8 @@ pub fn encode(threads: usize) -> Result<Answers, Box<Found>> {
             *sum += count;
         }
         Ok(())
-    })?;
+    });
+    done.map_err(found)?;
     Ok(answers.into_inner().unwrap())
 }
 
@@ -233,52 +241,5 @@ impl Grid {
             index /= length;
         }
         numbers
-    }
-}
-
-/// Does every chunk on one of the threads, until one differs.
-fn spread_over(
-    threads: usize,
-    title: &str,
-    chunks: u64,
-    size: u64,
-    work: impl Fn(u64) -> Result<(), Box<Case>> + Sync,
-) -> Result<(), Box<Found>> {
-    let next = AtomicU64::new(0);
-    let done = AtomicU64::new(0);
-    let working = AtomicU64::new(threads as u64);
-    let stop = AtomicBool::new(false);
-    let found: Mutex<Option<Box<Case>>> = Mutex::new(None);
-    let worker = || {
-        while !stop.load(Ordering::Relaxed) {
-            let chunk = next.fetch_add(1, Ordering::Relaxed);
-            if chunk >= chunks {
-                break;
-            }
-            if let Err(case) = work(chunk) {
-                stop.store(true, Ordering::Relaxed);
-                *found.lock().unwrap() = Some(case);
-            }
-            done.fetch_add(1, Ordering::Relaxed);
-        }
-        working.fetch_sub(1, Ordering::Relaxed);
-    };
-    thread::scope(|scope| {
-        for _ in 0..threads {
-            scope.spawn(worker);
-        }
-        let mut progress = Progress::new(title, chunks * size);
-        while working.load(Ordering::Relaxed) > 0 {
-            thread::sleep(Duration::from_millis(5));
-            progress.at(done.load(Ordering::Relaxed) * size);
-        }
-    });
-    match found.into_inner().unwrap() {
-        None => Ok(()),
-        Some(case) => {
-            let difference = crate::check::check(&case).err();
-            let difference = difference.unwrap_or_else(|| "seen in the sweep alone".into());
-            Err(Box::new(Found::of(0, &case, difference)))
-        }
     }
 }
