@@ -1,4 +1,5 @@
 //! One word, or a stretch of words, on lent files.
+//! The twin of `baseline`'s on purpose, so that each interpreter stands alone.
 
 use crate::predicates::{self, Predicates};
 use crate::setting::{SVE2P1, Setting};
