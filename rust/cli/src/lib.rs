@@ -2,8 +2,8 @@
 //!
 //! A lesson goes one way: [`lesson`] reads its text, [`run`](mod@run) lets the
 //! proved library (crate `gighull`) do its words, and [`report`] says what came
-//! of it; [`plot`] and [`save`] make files of it, which [`files`] puts down
-//! whole or not at all. The other commands are in [`words`](mod@words).
+//! of it; [`plot`] (by the pieces in [`svg`]) and [`save`] make files of it,
+//! which [`files`] puts down whole or not at all. The other commands are in [`words`](mod@words).
 //!
 //! Nothing here decides what a word does: every answer is the library's. What
 //! is told beside it ([`touch`], [`counter`]) is tested against the reference.
@@ -19,6 +19,7 @@ pub mod register;
 pub mod report;
 pub mod run;
 pub mod save;
+pub mod svg;
 pub mod table;
 pub mod touch;
 pub mod words;

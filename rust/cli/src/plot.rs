@@ -1,6 +1,6 @@
 //! A register's elements as a curve with axes, in SVG.
 
-use std::fmt::Write;
+use crate::svg::Svg;
 
 /// The elements from `first` on.
 pub struct Curve {
@@ -15,6 +15,8 @@ const HEIGHT: f64 = 480.0;
 const TOP: f64 = 48.0;
 const RIGHT: f64 = 28.0;
 const BOTTOM: f64 = 60.0;
+const FONT: f64 = 13.0;
+const COLOUR: &str = "#0b5fa5";
 /// About the width of a digit of the labels.
 const DIGIT: f64 = 8.0;
 /// Beyond so many, points would cover the line.
@@ -32,73 +34,46 @@ impl Curve {
         let floor = HEIGHT - BOTTOM;
         let y = |value: u128| floor - value as f64 / highest as f64 * (floor - TOP);
 
-        let mut svg = format!(
-            "<svg xmlns=\"http://www.w3.org/2000/svg\" width=\"{WIDTH}\" height=\"{HEIGHT}\" \
-             viewBox=\"0 0 {WIDTH} {HEIGHT}\" font-family=\"sans-serif\" font-size=\"13\">\n\
-             <rect width=\"{WIDTH}\" height=\"{HEIGHT}\" fill=\"white\"/>\n"
-        );
-        let middle = (left + WIDTH - RIGHT) / 2.0;
-        let title = escaped(&self.title);
-        let _ = writeln!(
-            svg,
-            "<text x=\"{middle:.1}\" y=\"28\" text-anchor=\"middle\" font-size=\"16\">{title}</text>"
-        );
+        let mut svg = Svg::new(WIDTH, HEIGHT);
         let (start, end) = (left, WIDTH - RIGHT);
+        let middle = (start + end) / 2.0;
+        svg.words((middle, 28.0), "middle", 16.0, &self.title);
         for tick in (0..).map(|n| n * step).take_while(|&tick| tick <= highest) {
-            let (label, line) = (left - 8.0, y(tick));
-            let _ = writeln!(
-                svg,
-                "<line x1=\"{start:.1}\" y1=\"{line:.1}\" x2=\"{end:.1}\" y2=\"{line:.1}\" stroke=\"#ddd\"/>\
-                 <text x=\"{label:.1}\" y=\"{:.1}\" text-anchor=\"end\">{tick}</text>",
-                line + 4.5
-            );
+            let line = y(tick);
+            svg.line((start, line), (end, line), "stroke=\"#ddd\"");
+            svg.words((left - 8.0, line + 4.5), "end", FONT, &tick.to_string());
         }
         let every = round_step(u128::from(last - self.first).div_ceil(16)) as u32;
         for tick in (self.first..=last).filter(|tick| tick.is_multiple_of(every)) {
-            let (at, label) = (x(tick), floor + 20.0);
-            let _ = writeln!(
-                svg,
-                "<line x1=\"{at:.1}\" y1=\"{floor:.1}\" x2=\"{at:.1}\" y2=\"{:.1}\" stroke=\"#333\"/>\
-                 <text x=\"{at:.1}\" y=\"{label:.1}\" text-anchor=\"middle\">{tick}</text>",
-                floor + 5.0
-            );
+            let at = x(tick);
+            svg.line((at, floor), (at, floor + 5.0), "stroke=\"#333\"");
+            svg.words((at, floor + 20.0), "middle", FONT, &tick.to_string());
         }
-        let _ = writeln!(
-            svg,
+        svg.piece(&format!(
             "<path d=\"M{start:.1} {TOP}V{floor:.1}H{end:.1}\" fill=\"none\" stroke=\"#333\"/>"
-        );
-        let below = HEIGHT - 16.0;
-        let name = escaped(&self.name);
-        let _ = writeln!(
-            svg,
-            "<text x=\"{middle:.1}\" y=\"{below:.1}\" text-anchor=\"middle\">element of {name}</text>"
-        );
+        ));
+        let below = format!("element of {}", self.name);
+        svg.words((middle, HEIGHT - 16.0), "middle", FONT, &below);
         let upright = (TOP + floor) / 2.0;
-        let _ = writeln!(
-            svg,
-            "<text transform=\"translate(20 {upright:.1}) rotate(-90)\" text-anchor=\"middle\">value</text>"
-        );
+        svg.piece(&format!(
+            "<text transform=\"translate(20 {upright:.1}) rotate(-90)\" text-anchor=\"middle\" font-size=\"{FONT}\">value</text>"
+        ));
         let points: Vec<(u32, u64)> = (self.first..).zip(self.values.iter().copied()).collect();
         let path: Vec<String> = points
             .iter()
             .map(|&(index, value)| format!("{:.1},{:.1}", x(index), y(u128::from(value))))
             .collect();
-        let _ = writeln!(
-            svg,
-            "<polyline points=\"{}\" fill=\"none\" stroke=\"#0b5fa5\" stroke-width=\"2\"/>",
+        svg.piece(&format!(
+            "<polyline points=\"{}\" fill=\"none\" stroke=\"{COLOUR}\" stroke-width=\"2\"/>",
             path.join(" ")
-        );
+        ));
         if points.len() <= MOST_POINTS {
             for (index, value) in points {
-                let (at, high) = (x(index), y(u128::from(value)));
-                let _ = writeln!(
-                    svg,
-                    "<circle cx=\"{at:.1}\" cy=\"{high:.1}\" r=\"4\" fill=\"#0b5fa5\"><title>element {index}: {value}</title></circle>"
-                );
+                let at = (x(index), y(u128::from(value)));
+                svg.dot(at, 4.0, COLOUR, &format!("element {index}: {value}"));
             }
         }
-        svg.push_str("</svg>\n");
-        svg
+        svg.end()
     }
 }
 
@@ -113,13 +88,6 @@ fn round_step(least: u128) -> u128 {
         }
         power *= 10;
     }
-}
-
-/// A text for SVG, between tags.
-pub fn escaped(text: &str) -> String {
-    text.replace('&', "&amp;")
-        .replace('<', "&lt;")
-        .replace('>', "&gt;")
 }
 
 #[cfg(test)]

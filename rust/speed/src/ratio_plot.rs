@@ -1,9 +1,7 @@
 //! The ratios as an SVG: a panel for each vector length, a line for each
 //! stretch, on one logarithmic axis.
 
-use std::fmt::Write;
-
-use gighull_cli::plot::escaped;
+use gighull_cli::svg::{Point, Svg};
 
 use crate::ratios::{Ratios, Row};
 
@@ -39,29 +37,25 @@ pub fn svg(ratios: &Ratios) -> String {
     let floor = TOP + places.last().map_or(0.0, |last| last + LINE);
     let height = floor + BOTTOM;
 
-    let mut svg = format!(
-        "<svg xmlns=\"http://www.w3.org/2000/svg\" width=\"{width:.0}\" height=\"{height:.0}\" \
-         viewBox=\"0 0 {width:.0} {height:.0}\" font-family=\"sans-serif\" font-size=\"{FONT}\">\n\
-         <rect width=\"100%\" height=\"100%\" fill=\"white\"/>\n"
-    );
+    let mut svg = Svg::new(width, height);
     let rounds = match ratios.rounds {
         Some(rounds) => format!(", median of {rounds} rounds"),
         None => String::new(),
     };
     let title = format!("Time of the proved library divided by the baseline's{rounds}");
-    text(&mut svg, (EDGE, 28.0), "start", 16.0, &title);
+    svg.words((EDGE, 28.0), "start", 16.0, &title);
     legend(&mut svg, ratios);
-    text(&mut svg, (left - 12.0, TOP - 10.0), "end", 14.0, "stretch");
+    svg.words((left - 12.0, TOP - 10.0), "end", 14.0, "stretch");
     for (name, place) in ratios.names.iter().zip(&places) {
         let at = (left - 12.0, TOP + place + LINE / 2.0 + 4.5);
-        text(&mut svg, at, "end", FONT, name);
+        svg.words(at, "end", FONT, name);
     }
     let panels = ratios.rows.chunks(ratios.names.len());
     for (number, (vl, rows)) in ratios.lengths.iter().zip(panels).enumerate() {
         let start = left + across * number as f64;
         let panel = Panel { axis, start, floor };
         let at = (start + PANEL / 2.0, TOP - 10.0);
-        text(&mut svg, at, "middle", 14.0, &format!("VL {vl}"));
+        svg.words(at, "middle", 14.0, &format!("VL {vl}"));
         panel.frame(&mut svg);
         for (row, place) in rows.iter().zip(&places) {
             panel.row(&mut svg, row, TOP + place + LINE / 2.0);
@@ -69,15 +63,8 @@ pub fn svg(ratios: &Ratios) -> String {
     }
     let title =
         "median ratio proved/baseline, logarithmic: left of 1 the proved library is quicker";
-    text(
-        &mut svg,
-        (width / 2.0, height - EDGE),
-        "middle",
-        FONT,
-        title,
-    );
-    svg.push_str("</svg>\n");
-    svg
+    svg.words((width / 2.0, height - EDGE), "middle", FONT, title);
+    svg.end()
 }
 
 /// Where each stretch's line begins, from the top of the lines.
@@ -151,7 +138,7 @@ impl Panel {
         self.start + self.axis.x(value)
     }
 
-    fn frame(self, svg: &mut String) {
+    fn frame(self, svg: &mut Svg) {
         for tick in self.axis.ticks() {
             let (x, is_one) = (self.x(tick), (tick - 1.0).abs() < 1e-6);
             let look = if is_one {
@@ -159,72 +146,62 @@ impl Panel {
             } else {
                 "stroke=\"#ddd\""
             };
-            line(svg, (x, TOP), (x, self.floor), look);
+            svg.line((x, TOP), (x, self.floor), look);
             if self.axis.has_label(tick) {
                 let label = format!("{}", (tick * 1e4).round() / 1e4);
-                let at = (x, self.floor + 18.0);
-                text(svg, at, "middle", 12.0, &label);
+                svg.words((x, self.floor + 18.0), "middle", 12.0, &label);
             }
         }
-        let (x, y) = (self.start, TOP);
-        let high = self.floor - TOP;
-        let _ = writeln!(
-            svg,
-            "<rect x=\"{x:.1}\" y=\"{y:.1}\" width=\"{PANEL}\" height=\"{high:.1}\" fill=\"none\" stroke=\"#999\"/>"
-        );
+        let (x, high) = (self.start, self.floor - TOP);
+        svg.piece(&format!(
+            "<rect x=\"{x:.1}\" y=\"{TOP:.1}\" width=\"{PANEL}\" height=\"{high:.1}\" fill=\"none\" stroke=\"#999\"/>"
+        ));
     }
 
-    /// A stem from 1 to the ratio, its mark, and the bar.
-    fn row(self, svg: &mut String, row: &Row, y: f64) {
-        let x = self.x(row.median);
+    /// A stem from 1 to the ratio, the bar, and the ratio's mark.
+    fn row(self, svg: &mut Svg, row: &Row, y: f64) {
+        let at = (self.x(row.median), y);
         let colour = if row.is_over() { OVER } else { WITHIN };
         let look = format!("stroke=\"{colour}\" stroke-width=\"2\"");
-        line(svg, (self.x(1.0), y), (x, y), &look);
+        svg.line((self.x(1.0), y), at, &look);
+        let mut title = format!("{} at VL {}: {}", row.name, row.vl, row.median);
         if let Some(bar) = row.bar {
-            bar_mark(svg, self.x(bar), y);
+            bar_mark(svg, (self.x(bar), y));
+            title += &format!(", bar {bar}");
         }
-        let title = match row.bar {
-            Some(bar) => format!("{} at VL {}: {}, bar {bar}", row.name, row.vl, row.median),
-            None => format!("{} at VL {}: {}", row.name, row.vl, row.median),
-        };
-        let _ = write!(svg, "<g><title>{}</title>", escaped(&title));
-        ratio_mark(svg, row.is_over(), x, y);
-        svg.push_str("</g>\n");
+        if row.is_over() {
+            over_mark(svg, at, &title);
+        } else {
+            within_mark(svg, at, &title);
+        }
     }
 }
 
-fn ratio_mark(svg: &mut String, is_over: bool, x: f64, y: f64) {
-    let _ = if is_over {
-        write!(
-            svg,
-            "<path d=\"M{:.1} {y:.1}l6 -6l6 6l-6 6z\" fill=\"{OVER}\"/>",
-            x - 6.0
-        )
-    } else {
-        write!(
-            svg,
-            "<circle cx=\"{x:.1}\" cy=\"{y:.1}\" r=\"4.5\" fill=\"{WITHIN}\"/>"
-        )
-    };
+fn within_mark(svg: &mut Svg, at: Point, title: &str) {
+    svg.dot(at, 4.5, WITHIN, title);
 }
 
-fn bar_mark(svg: &mut String, x: f64, y: f64) {
+fn over_mark(svg: &mut Svg, at: Point, title: &str) {
+    svg.diamond(at, 6.0, OVER, title);
+}
+
+fn bar_mark(svg: &mut Svg, (x, y): Point) {
     let look = format!("stroke=\"{BAR}\" stroke-width=\"2.5\"");
-    line(svg, (x, y - 8.0), (x, y + 8.0), &look);
+    svg.line((x, y - 8.0), (x, y + 8.0), &look);
 }
 
 /// Only of the marks that are there.
-fn legend(svg: &mut String, ratios: &Ratios) {
-    type Mark = fn(&mut String, f64, f64);
+fn legend(svg: &mut Svg, ratios: &Ratios) {
+    type Mark = fn(&mut Svg, Point);
     let rows = &ratios.rows;
     let entries: [(bool, &str, Mark); 3] = [
-        (!rows.iter().all(Row::is_over), "ratio", |svg, x, y| {
-            ratio_mark(svg, false, x, y);
+        (!rows.iter().all(Row::is_over), "ratio", |svg, at| {
+            within_mark(svg, at, "");
         }),
         (
             rows.iter().any(Row::is_over),
             "ratio over its bar",
-            |svg, x, y| ratio_mark(svg, true, x, y),
+            |svg, at| over_mark(svg, at, ""),
         ),
         (
             rows.iter().any(|row| row.bar.is_some()),
@@ -234,26 +211,10 @@ fn legend(svg: &mut String, ratios: &Ratios) {
     ];
     let (mut x, y) = (EDGE + 6.0, 56.0);
     for (_, words, mark) in entries.into_iter().filter(|(is_there, ..)| *is_there) {
-        mark(svg, x, y);
-        text(svg, (x + 14.0, y + 4.5), "start", FONT, words);
+        mark(svg, (x, y));
+        svg.words((x + 14.0, y + 4.5), "start", FONT, words);
         x += 38.0 + LETTER * words.len() as f64;
     }
-}
-
-fn text(svg: &mut String, (x, y): (f64, f64), anchor: &str, size: f64, words: &str) {
-    let words = escaped(words);
-    let _ = writeln!(
-        svg,
-        "<text x=\"{x:.1}\" y=\"{y:.1}\" text-anchor=\"{anchor}\" font-size=\"{size}\">{words}</text>"
-    );
-}
-
-fn line(svg: &mut String, from: (f64, f64), to: (f64, f64), look: &str) {
-    let _ = writeln!(
-        svg,
-        "<line x1=\"{:.1}\" y1=\"{:.1}\" x2=\"{:.1}\" y2=\"{:.1}\" {look}/>",
-        from.0, from.1, to.0, to.1
-    );
 }
 
 #[cfg(test)]
