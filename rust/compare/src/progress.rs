@@ -23,10 +23,6 @@ impl Progress {
         }
     }
 
-    pub fn seconds(&self) -> f64 {
-        self.from.elapsed().as_secs_f64()
-    }
-
     /// Says how far it is, if it is time to.
     pub fn at(&mut self, done: u64) {
         let pause = if self.on_terminal { 1 } else { 15 };

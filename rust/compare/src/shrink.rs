@@ -2,8 +2,9 @@
 //!
 //! Each pass tries simpler values in one part of the case and keeps those with
 //! which it still differs; passes are repeated until none keeps anything. A
-//! kept value is always simpler (fewer words, fewer bits, a smaller number), so
-//! that this ends.
+//! kept value is always simpler (fewer words, fewer bits, a smaller number) or
+//! more usual (a file of the right length, an open flag, all features), so that
+//! this ends.
 
 use reference::machine::{Flags, Machine, P_FILE_BYTES, Z_FILE_BYTES, ZT0_FILE_BYTES};
 use reference::setting::{Setting, VECTOR_LENGTHS};
@@ -133,14 +134,14 @@ impl Shrinker<'_> {
     }
 
     fn settings(&mut self) {
-        for vl in [128, 256, 512, 1024, 2048] {
+        for vl in VECTOR_LENGTHS {
             if vl_of(&mut self.case).is_none_or(|now| *now == vl)
                 || self.attempt(|case| *vl_of(case).unwrap() = vl)
             {
                 break;
             }
         }
-        for features in [31, 29, 28, 15, 13, 12, 7, 5, 4, 3, 1, 0] {
+        for features in ALLOWED_FEATURES.into_iter().rev() {
             if setting_of(&mut self.case).is_none_or(|now| now.features == features)
                 || self.attempt(|case| setting_of(case).unwrap().features = features)
             {

@@ -18,6 +18,7 @@ use crate::threads::spread_over;
 /// How many words are read as each form under each allowed feature number.
 pub type Accepted = [[u64; 6]; ALLOWED_FEATURES.len()];
 
+/// What stands in the fields before a word is read.
 const MARK: [u32; ffi::FIELDS] = [0xa5a5_a5a5; ffi::FIELDS];
 
 /// Every word from `from` to `to`, under each allowed feature number. The
@@ -49,8 +50,8 @@ pub fn decode(from: u32, to: u32, threads: usize) -> Result<Accepted, Box<Found>
 /// Every word with the fixed bits of a layout, and every word with one of these
 /// bits the other way, under each allowed feature number.
 pub fn near(threads: usize) -> Result<(u64, Accepted), Box<Found>> {
-    // A layout, the bit that is turned (or none), and the upper part of the
-    // numbers that its fields may be.
+    // A layout, the bit that is turned (or none), and a part of the numbers
+    // that its fields may be together.
     const PART: u32 = 1 << 14;
     let mut chunks = Vec::new();
     let mut words = 0;

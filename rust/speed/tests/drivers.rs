@@ -1,4 +1,5 @@
-//! The drivers on programs that are no listers, so that they must notice.
+//! The programs as they are called; those about listers with programs that are
+//! none, so that they must notice.
 
 #[path = "../../called/mod.rs"]
 mod called;

@@ -15,8 +15,8 @@ pub struct Lent {
 }
 
 impl Lent {
-    /// The start moves with the length, so that not all have the same address
-    /// in a cache line.
+    /// The start moves with `shift`, so that not all have the same address in a
+    /// cache line.
     pub fn of(content: &[u8], shift: usize) -> Lent {
         let from = MARGIN + shift;
         let mut bytes = Vec::with_capacity(from + content.len() + MARGIN);

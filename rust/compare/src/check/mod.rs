@@ -2,7 +2,7 @@
 //!
 //! Every byte that the library may write is compared: the three files and the
 //! record whole, buffers with what must stay in them, and a margin on both
-//! sides of what is lent, which nobody may touch.
+//! sides of every file, buffer and list of fields, which nobody may touch.
 
 mod lent;
 
