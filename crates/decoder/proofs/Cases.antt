@@ -22,7 +22,7 @@ use Rattle.encoding.specs.Encode.{written, unwritten, encodeOf}
 use Rattle.encoding.specs.declared.Instruction.{Instruction}
 use Rattle.encoding.proofs.LayoutLaws.{sound, maskOf, fixedOf, matches-masked, masked-matches}
 use Rattle.encoding.proofs.Apart.{decide, apart, not-both}
-use Rattle.encoding.proofs.FieldLaws.{and-true}
+use Rattle.encoding.proofs.FieldBits.{and-true}
 use Rattle.encoding.proofs.Choice.{readAt, read-past, first-is-read, first-matches}
 
 -- ---- a layout by the tables of masks and fixed bits

@@ -10,7 +10,8 @@ use Rattle.encoding.specs.Instructions.{pextInRange, inRange, rawSize, rawDupBi
 use Rattle.encoding.specs.Rows.{rowOf, pext1, pext2, dup, luti4c, luti4s, uqrshrnb}
 use Rattle.encoding.specs.declared.Instruction.{Instruction}
 use Rattle.encoding.specs.declared.Instruction.the-variants.{Pext1, Pext2, Dup, Luti4c, Luti4s, Uqrshrnb}
-use Rattle.encoding.proofs.FieldLaws.{and-true, pext-ranges, luti-ranges, luti-size, strided-zd, narrow-ranges, narrow-bits, narrow-cases}
+use Rattle.encoding.proofs.FieldBits.{and-true, luti-size, strided-zd, narrow-bits, narrow-cases}
+use Rattle.encoding.proofs.InRange.{pext-ranges, luti-ranges, narrow-ranges}
 
 -- what is known of the instruction in an arm
 pub known-word : {i j : Instruction} {w : ℕ} → i ≡ j → w ≡ wordOf (rowOf j .layout) (rawOf j) → w ≡ wordOf (rowOf i .layout) (rawOf i)

@@ -21,7 +21,9 @@ use Rattle.encoding.specs.declared.Instruction.the-variants.{Pext1, Pext
 use Rattle.encoding.proofs.LayoutLaws.{fields-back, word-matches}
 use Rattle.encoding.proofs.Apart.{decide}
 use Rattle.encoding.proofs.Choice.{disjoint, matchesAt, readAt, none-first, first-is-read, place-is, at-most-one, refused-none, accepted-by, first-three}
-use Rattle.encoding.proofs.FieldLaws.{and-true, in-range-reads, RowWrites, pext1-writes, pext2-writes, dup-row-writes, luti4c-row-writes, luti4s-row-writes, uqrshrnb-row-writes}
+use Rattle.encoding.proofs.FieldBits.{and-true}
+use Rattle.encoding.proofs.InRange.{in-range-reads}
+use Rattle.encoding.proofs.WrittenBack.{RowWrites, pext1-writes, pext2-writes, dup-row-writes, luti4c-row-writes, luti4s-row-writes, uqrshrnb-row-writes}
 
 -- the six layouts are sound and pairwise apart: computed
 pub rows-disjoint : T (disjoint rows)

@@ -18,7 +18,8 @@ use Rattle.encoding.specs.Decode.{decodeOf}
 use Rattle.encoding.specs.Instructions.{inRange}
 use Rattle.encoding.specs.declared.Instruction.{Instruction}
 use Rattle.encoding.specs.declared.Instruction.the-variants.{Pext1, Pext2, Dup, Luti4c, Luti4s, Uqrshrnb}
-use Rattle.encoding.proofs.FieldLaws.{and-true, pext-ranges, dup-ranges, luti-ranges, strided-zd, narrow-ranges, known-range}
+use Rattle.encoding.proofs.FieldBits.{and-true, strided-zd}
+use Rattle.encoding.proofs.InRange.{pext-ranges, dup-ranges, luti-ranges, narrow-ranges, known-range}
 use Rattle.encoding.proofs.Round.{read-in-range}
 use Rattle.machine.specs.Touched.{readsOf, writesOf}
 use Rattle.machine.specs.Step.{reads, writes, overWord}

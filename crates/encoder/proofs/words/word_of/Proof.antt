@@ -1,6 +1,6 @@
 -- `word_of` meets its contract: in each arm the instruction is known, its fields are in range, and the sum is its layout's word.
 use lib.Dec.{lit≤}
-use Rattle.encoding.proofs.FieldLaws.{dup-ranges, known-range}
+use Rattle.encoding.proofs.InRange.{dup-ranges, known-range}
 use Rattle.encoder.proofs.WordLaws.{known-word, pext-asks, luti4c-asks, luti4s-asks, narrow-asks, pext1-sum, pext2-sum, dup-sum, luti4c-sum, luti4s-sum, uqrshrnb-sum}
 use borrow.Author.Needs.{needs}
 use Rattle.encoder.proofs.words.word_of.Statement.{statement}
