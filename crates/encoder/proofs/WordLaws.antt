@@ -5,12 +5,13 @@ use Prim.Native.Nat.{ℕ, _+_, _-_, _*_, _%_, _/_, _<_, _≤_}
 use native.Mathlib.Omega.{arith}
 use lib.Dec.{eqb, ltb, leb, lit<, lit≤}
 use borrow.Author.Tests.{eqb-true, leb-true}
+use Rattle.element.proofs.Tests.{both-yes}
 use Rattle.encoding.specs.Layout.{wordOf}
 use Rattle.encoding.specs.Instructions.{pextInRange, inRange, rawSize, rawDupBits, rawOf}
 use Rattle.encoding.specs.Rows.{rowOf, pext1, pext2, dup, luti4c, luti4s, uqrshrnb}
 use Rattle.encoding.specs.declared.Instruction.{Instruction}
 use Rattle.encoding.specs.declared.Instruction.the-variants.{Pext1, Pext2, Dup, Luti4c, Luti4s, Uqrshrnb}
-use Rattle.encoding.proofs.FieldBits.{and-true, luti-size, strided-zd, narrow-bits, narrow-cases}
+use Rattle.encoding.proofs.FieldBits.{luti-size, strided-zd, narrow-bits, narrow-cases}
 use Rattle.encoding.proofs.InRange.{pext-ranges, luti-ranges, narrow-ranges}
 
 -- what is known of the instruction in an arm
@@ -27,7 +28,7 @@ pext-asks fixed bound size portion counter pd raw hf hb e h =
 pub luti4c-asks : (size i1 zn zd raw : ℕ) → raw ≡ rawSize size → inRange (Luti4c size i1 zn zd) ≡ true → (0xc08a8000 ≤ 0xc09a8000) × (raw < 4) × (i1 < 2) × (zn < 32) × (zd < 32)
 luti4c-asks size i1 zn zd raw e h =
     let r = luti-ranges (eqb size 16 || eqb size 32) i1 zn (eqb (zd % 4) 0 && leb zd 28) h in
-    let most = leb-true zd 28 (and-true (eqb (zd % 4) 0) (leb zd 28) (r .3) .1) in
+    let most = leb-true zd 28 (both-yes (eqb (zd % 4) 0) (leb zd 28) (r .3) .1) in
     (lit≤ tt, rw e (luti-size size (r .0) .lt), r .1, r .2, omega arith)
 
 pub luti4s-asks : (size i1 zn zd raw : ℕ) → raw ≡ rawSize size → inRange (Luti4s size i1 zn zd) ≡ true → (0xc09a8000 ≤ 0xc09a8000) × (raw < 4) × (i1 < 2) × (zn < 32) × (zd < 32)
@@ -40,7 +41,7 @@ pub narrow-asks : (size shift zn zd : ℕ) → inRange (Uqrshrnb size shift zn z
 narrow-asks size shift zn zd h =
     let r = narrow-ranges size shift zn zd h in
     let s : size ≤ 32 = narrow-cases (λ n. n ≤ 32) (lit≤ tt) (lit≤ tt) (lit≤ tt) size (r .0) in
-    let k = leb-true shift size (and-true (leb 1 shift) (leb shift size) (r .1) .1) in
+    let k = leb-true shift size (both-yes (leb 1 shift) (leb shift size) (r .1) .1) in
     (s, k, narrow-bits size (r .0) shift (r .1) .lt, r .2, r .3)
 
 -- ---- the sums are the words
@@ -61,7 +62,7 @@ pub luti4c-sum : (size i1 zn zd raw w : ℕ) → inRange (Luti4c size i1 zn zd) 
     → w ≡ wordOf (luti4c .layout) (rawOf (Luti4c size i1 zn zd))
 luti4c-sum size i1 zn zd raw w h e q =
     let r = luti-ranges (eqb size 16 || eqb size 32) i1 zn (eqb (zd % 4) 0 && leb zd 28) h in
-    let four = eqb-true (zd % 4) 0 (and-true (eqb (zd % 4) 0) (leb zd 28) (r .3) .0) in
+    let four = eqb-true (zd % 4) 0 (both-yes (eqb (zd % 4) 0) (leb zd 28) (r .3) .0) in
     omega arith
 
 pub luti4s-sum : (size i1 zn zd raw w : ℕ) → raw ≡ rawSize size → w ≡ 0xc09a8000 + i1 * 0x10000 + raw * 0x1000 + zn * 32 + zd

@@ -7,18 +7,10 @@ use lib.Dec.{T, eqb, ltb, leb, lit<, lit≤, ltb→lt, eqb→eq}
 use lib.Count.{trailingZeros}
 use borrow.Author.Tests.{eqb-true, ltb-true, leb-true, lt-ltb, le-ltb, le-leb, not-true}
 use Rattle.element.specs.Size.{sizeOf, isSize}
-use Rattle.element.proofs.Below.{both, below}
+use Rattle.element.proofs.Below.{both, is-true, below}
+use Rattle.element.proofs.Tests.{both-yes}
 use Rattle.encoding.specs.Instructions.{isZ, narrowInRange, rawSize, dupOffset, rawDupBits, narrowSize}
 use Rattle.encoding.proofs.Apart.{decide}
-
--- ---- on tests
-pub and-true : (a b : Bool) → a && b ≡ true → (a ≡ true) × (b ≡ true)
-and-true true b e = (refl, e)
-and-true false b e = let z : _≡_ {A = ℕ} 0 1 = cc in absurd (omega arith)
-
-is-true : (b : Bool) → T b → b ≡ true
-is-true true t = refl
-is-true false t = absurd t
 
 or-right : (a b : Bool) → a ≡ false → T (a || b) → T b
 or-right true b e t = let z : _≡_ {A = ℕ} 0 1 = cc in absurd (omega arith)
@@ -121,7 +113,7 @@ size-luti s e = decide (eqb s 1) (λ h. rw (eqb-true s 1 h) (refl, refl)) (λ h.
 pub strided-zd : (zd : ℕ) → (ltb zd 4 || (leb 16 zd && ltb zd 20)) ≡ true → (zd / 16 < 2) × (zd % 16 < 4)
 strided-zd zd e =
     decide (ltb zd 4) (λ h. let l = ltb-true zd 4 h in (omega arith, omega arith))
-    (λ h. let p = and-true (leb 16 zd) (ltb zd 20) (simp h at e) in let g = leb-true 16 zd (p .0) in let l = ltb-true zd 20 (p .1) in (omega arith, omega arith))
+    (λ h. let p = both-yes (leb 16 zd) (ltb zd 20) (simp h at e) in let g = leb-true 16 zd (p .0) in let l = ltb-true zd 20 (p .1) in (omega arith, omega arith))
 
 pub zd-strided : (D d : ℕ) → D < 2 → d < 4 → (ltb (16 * D + d) 4 || (leb 16 (16 * D + d) && ltb (16 * D + d) 20)) ≡ true
 zd-strided zero d hD hd = let l : 16 * 0 + d < 4 = omega arith in simp (lt-ltb (16 * 0 + d) 4 l)
@@ -157,7 +149,7 @@ narrow-cases P a b c n =
     (λ e. decide (eqb n 16) (λ e′ _. rw (eqb-true n 16 e′) b) (λ e′ h. rw (eqb-true n 32 (simp (e, e′) at h)) c))
 
 shift-lt : (n k : ℕ) → n ≤ 32 → (leb 1 k && leb k n) ≡ true → k < 33
-shift-lt n k l h = let u = leb-true k n (and-true (leb 1 k) (leb k n) h .1) in omega arith
+shift-lt n k l h = let u = leb-true k n (both-yes (leb 1 k) (leb k n) h .1) in omega arith
 
 pub narrow-bits : (n : ℕ) → (eqb n 8 || eqb n 16 || eqb n 32) ≡ true → (k : ℕ) → (leb 1 k && leb k n) ≡ true → ShiftBits n k
 unfolding shift-bits

@@ -6,12 +6,13 @@ use native.Mathlib.Omega.{arith}
 use lib.Dec.{eqb, ltb, leb, lit<}
 use borrow.Author.Tests.{eqb-true, ltb-true, leb-true}
 use Rattle.element.specs.Size.{isSize}
+use Rattle.element.proofs.Tests.{both-yes}
 use Rattle.encoding.specs.Instructions.{isP, isZ, pextInRange, dupInRange, lutiInRange, narrowInRange, inRange, rawDupBits, rawOf}
 use Rattle.encoding.specs.Rows.{rowOf}
 use Rattle.encoding.specs.declared.Instruction.{Instruction}
 use Rattle.encoding.specs.declared.Instruction.the-variants.{Pext1, Pext2, Dup, Luti4c, Luti4s, Uqrshrnb}
 use Rattle.encoding.proofs.LayoutLaws.{Fit}
-use Rattle.encoding.proofs.FieldBits.{and-true, RawSize, raw-size, DupBits, dup-bits, luti-size, strided-zd, narrow-bits}
+use Rattle.encoding.proofs.FieldBits.{RawSize, raw-size, DupBits, dup-bits, luti-size, strided-zd, narrow-bits}
 
 -- the fields that it is written with fit its row, meet its condition, and are read as it
 pub record Reads (i : Instruction) : Type 0 where
@@ -29,10 +30,10 @@ pub record Pext (bound size portion counter pd : ℕ) : Type 0 where
 
 pub pext-ranges : (bound size portion counter pd : ℕ) → pextInRange bound size portion counter pd ≡ true → Pext bound size portion counter pd
 pext-ranges bound size portion counter pd e =
-    let a = and-true (isSize size && ltb portion bound && (leb 8 counter && ltb counter 16)) (isP pd) e in
-    let b = and-true (isSize size && ltb portion bound) (leb 8 counter && ltb counter 16) (a .0) in
-    let c = and-true (isSize size) (ltb portion bound) (b .0) in
-    let d = and-true (leb 8 counter) (ltb counter 16) (b .1) in
+    let a = both-yes (isSize size && ltb portion bound && (leb 8 counter && ltb counter 16)) (isP pd) e in
+    let b = both-yes (isSize size && ltb portion bound) (leb 8 counter && ltb counter 16) (a .0) in
+    let c = both-yes (isSize size) (ltb portion bound) (b .0) in
+    let d = both-yes (leb 8 counter) (ltb counter 16) (b .1) in
     record { size-raw = raw-size size (c .0); portion-lt = ltb-true portion bound (c .1); counter-ge = leb-true 8 counter (d .0); counter-lt = ltb-true counter 16 (d .1); pd-lt = ltb-true pd 16 (a .1) }
 
 above : (k n : ℕ) → k ≤ n → k + (n - k) ≡ n
@@ -49,12 +50,12 @@ pub record DupFields (size offset index pg pn pd : ℕ) : Type 0 where
 
 pub dup-ranges : (size offset index pg pn pd : ℕ) → dupInRange size offset index pg pn pd ≡ true → DupFields size offset index pg pn pd
 dup-ranges size offset index pg pn pd e =
-    let a = and-true (isSize size && ltb offset (128 / size) && (leb 12 index && ltb index 16)) (isP pg && isP pn && isP pd) e in
-    let b = and-true (isSize size && ltb offset (128 / size)) (leb 12 index && ltb index 16) (a .0) in
-    let c = and-true (isSize size) (ltb offset (128 / size)) (b .0) in
-    let d = and-true (leb 12 index) (ltb index 16) (b .1) in
-    let p = and-true (isP pg && isP pn) (isP pd) (a .1) in
-    let q = and-true (isP pg) (isP pn) (p .0) in
+    let a = both-yes (isSize size && ltb offset (128 / size) && (leb 12 index && ltb index 16)) (isP pg && isP pn && isP pd) e in
+    let b = both-yes (isSize size && ltb offset (128 / size)) (leb 12 index && ltb index 16) (a .0) in
+    let c = both-yes (isSize size) (ltb offset (128 / size)) (b .0) in
+    let d = both-yes (leb 12 index) (ltb index 16) (b .1) in
+    let p = both-yes (isP pg && isP pn) (isP pd) (a .1) in
+    let q = both-yes (isP pg) (isP pn) (p .0) in
     record { bits = dup-bits size (c .0) offset (ltb-true offset (128 / size) (c .1)); index-ge = leb-true 12 index (d .0); index-lt = ltb-true index 16 (d .1); pg-lt = ltb-true pg 16 (q .0); pn-lt = ltb-true pn 16 (q .1); pd-lt = ltb-true pd 16 (p .1) }
 
 -- the three raw fields of i1:tszh:tszl put together again, and taken apart
@@ -77,15 +78,15 @@ dup-reads size offset index pg pn pd r =
 -- ---- LUTI4, both layouts: what they share is size, i1 and Zn
 pub luti-ranges : (size : Bool) (i1 zn : ℕ) (first : Bool) → lutiInRange size i1 zn first ≡ true → (size ≡ true) × (i1 < 2) × (zn < 32) × (first ≡ true)
 luti-ranges size i1 zn first e =
-    let a = and-true (size && ltb i1 2 && isZ zn) first e in
-    let b = and-true (size && ltb i1 2) (isZ zn) (a .0) in
-    let c = and-true size (ltb i1 2) (b .0) in
+    let a = both-yes (size && ltb i1 2 && isZ zn) first e in
+    let b = both-yes (size && ltb i1 2) (isZ zn) (a .0) in
+    let c = both-yes size (ltb i1 2) (b .0) in
     (c .0, ltb-true i1 2 (c .1), ltb-true zn 32 (b .1), a .1)
 
 luti4c-reads : (size i1 zn zd : ℕ) → inRange (Luti4c size i1 zn zd) ≡ true → Reads (Luti4c size i1 zn zd)
 luti4c-reads size i1 zn zd e =
     let r = luti-ranges (eqb size 16 || eqb size 32) i1 zn (eqb (zd % 4) 0 && leb zd 28) e in
-    let d = and-true (eqb (zd % 4) 0) (leb zd 28) (r .3) in
+    let d = both-yes (eqb (zd % 4) 0) (leb zd 28) (r .3) in
     let four = eqb-true (zd % 4) 0 (d .0) in
     let most = leb-true zd 28 (d .1) in
     let n = luti-size size (r .0) in
@@ -107,9 +108,9 @@ luti4s-reads size i1 zn zd e =
 pub narrow-ranges : (size shift zn zd : ℕ) → narrowInRange size shift zn zd ≡ true
     → ((eqb size 8 || eqb size 16 || eqb size 32) ≡ true) × ((leb 1 shift && leb shift size) ≡ true) × (zn < 32) × (zd < 32)
 narrow-ranges size shift zn zd e =
-    let a = and-true ((eqb size 8 || eqb size 16 || eqb size 32) && (leb 1 shift && leb shift size)) (isZ zn && isZ zd) e in
-    let b = and-true (eqb size 8 || eqb size 16 || eqb size 32) (leb 1 shift && leb shift size) (a .0) in
-    let z = and-true (isZ zn) (isZ zd) (a .1) in
+    let a = both-yes ((eqb size 8 || eqb size 16 || eqb size 32) && (leb 1 shift && leb shift size)) (isZ zn && isZ zd) e in
+    let b = both-yes (eqb size 8 || eqb size 16 || eqb size 32) (leb 1 shift && leb shift size) (a .0) in
+    let z = both-yes (isZ zn) (isZ zd) (a .1) in
     (b .0, b .1, ltb-true zn 32 (z .0), ltb-true zd 32 (z .1))
 
 narrow-reads : (size shift zn zd : ℕ) → inRange (Uqrshrnb size shift zn zd) ≡ true → Reads (Uqrshrnb size shift zn zd)

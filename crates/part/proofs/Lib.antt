@@ -1,3 +1,3 @@
 pub mod Widths
 pub mod Slots
-pub mod Tests
+pub mod Lengths

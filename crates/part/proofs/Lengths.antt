@@ -1,20 +1,13 @@
--- A test that was passed, read as facts: by cases on the Bools and on the five lengths.
+-- A length that passed its test, read as facts: by cases on the five.
 use mathlib.Core.Path.{_≡_, refl}
-use mathlib.Core.Bool.{Bool, true, false, _&&_, _||_}
-use mathlib.Core.Logic.{⊎-elim, _⊎_, inl, inr}
+use mathlib.Core.Bool.{true, _||_}
+use mathlib.Core.Logic.{⊎-elim}
 use Prim.Native.Nat.{ℕ}
 use lib.Dec.{eqb, lit≤}
 use borrow.Author.Tests.{eqb-true}
+use Rattle.element.proofs.Tests.{one-yes}
 use Rattle.setting.specs.Allowed.{lengthAllowed}
 use Rattle.part.specs.Parts.{Lengths}
-
-pub and-split : (a b : Bool) → (a && b) ≡ true → (a ≡ true) × (b ≡ true)
-and-split true b h = (refl, h)
-and-split false b h = (h, (cc))
-
-pub or-split : (a b : Bool) → (a || b) ≡ true → (a ≡ true) ⊎ (b ≡ true)
-or-split true b h = inl refl
-or-split false b h = inr h
 
 length-at : (vl m : ℕ) → Lengths m → eqb vl m ≡ true → Lengths vl
 length-at vl m l h = rw (eqb-true vl m h) l
@@ -28,10 +21,10 @@ lengths-of vl h =
     (λ h2. ⊎-elim
     (length-at vl 128 (record { least = lit≤ tt; most = lit≤ tt; even = refl }))
     (length-at vl 256 (record { least = lit≤ tt; most = lit≤ tt; even = refl }))
-    (or-split (eqb vl 128) (eqb vl 256) h2))
+    (one-yes (eqb vl 128) (eqb vl 256) h2))
     (length-at vl 512 (record { least = lit≤ tt; most = lit≤ tt; even = refl }))
-    (or-split (eqb vl 128 || eqb vl 256) (eqb vl 512) h3))
+    (one-yes (eqb vl 128 || eqb vl 256) (eqb vl 512) h3))
     (length-at vl 1024 (record { least = lit≤ tt; most = lit≤ tt; even = refl }))
-    (or-split (eqb vl 128 || eqb vl 256 || eqb vl 512) (eqb vl 1024) h4))
+    (one-yes (eqb vl 128 || eqb vl 256 || eqb vl 512) (eqb vl 1024) h4))
     (length-at vl 2048 (record { least = lit≤ tt; most = lit≤ tt; even = refl }))
-    (or-split (eqb vl 128 || eqb vl 256 || eqb vl 512 || eqb vl 1024) (eqb vl 2048) h)
+    (one-yes (eqb vl 128 || eqb vl 256 || eqb vl 512 || eqb vl 1024) (eqb vl 2048) h)
