@@ -8,9 +8,16 @@ use Rattle.setting.specs.Allowed.{lengthAllowed}
 use Rattle.element.specs.Size.{pick}
 use Rattle.narrow.specs.Narrow.{uqrshrnbFile}
 
+-- the three sizes of a result, in bits
+abbrev pub isResult : ℕ → Bool
+isResult size = eqb size 8 || eqb size 16 || eqb size 32
+
+-- what else is asked: the code tests the size where each has its loop
+abbrev pub restReady : ℕ → ℕ → ℕ → ℕ → ℕ → ℕ → Bool
+restReady z vl size shift zn zd = (eqb z 8192 && lengthAllowed vl) && (ltb 0 shift && leb shift size) && (ltb zn 32 && ltb zd 32)
+
 unfoldable pub narrowReady : ℕ → ℕ → ℕ → ℕ → ℕ → ℕ → Bool
-narrowReady z vl size shift zn zd =
-    (eqb z 8192 && lengthAllowed vl) && ((eqb size 8 || eqb size 16 || eqb size 32) && ltb 0 shift && leb shift size) && (ltb zn 32 && ltb zd 32)
+narrowReady z vl size shift zn zd = isResult size && restReady z vl size shift zn zd
 
 unfoldable pub narrowFile : ℕ → ℕ → ℕ → ℕ → ℕ → List ℕ → List ℕ
 narrowFile vl size shift zn zd z = pick (narrowReady (length z) vl size shift zn zd) (uqrshrnbFile size shift vl zn zd z) z

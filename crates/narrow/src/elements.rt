@@ -6,7 +6,8 @@ ghost use Rattle.element.specs.Contents.{elem, fill};
 ghost use Rattle.element.specs.Size.{pick};
 ghost use Rattle.element.specs.Slots.{slot, setSlot};
 ghost use Rattle.narrow.specs.Narrow.{narrowed, uqrshrnbFile};
-ghost use Rattle.narrow.specs.Needed.{isResult, EachReady, ChunksReady, NarrowReady};
+ghost use Rattle.narrow.specs.Calls.{isResult};
+ghost use Rattle.narrow.specs.Needed.{EachReady, ChunksReady, NarrowReady};
 use crate::one;
 
 // Each of the n elements of s, narrowed, into o.
