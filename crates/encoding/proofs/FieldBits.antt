@@ -6,10 +6,11 @@ use native.Mathlib.Omega.{arith}
 use lib.Dec.{T, eqb, ltb, leb, lit<, lit≤, ltb→lt, eqb→eq}
 use lib.Count.{trailingZeros}
 use borrow.Author.Tests.{eqb-true, ltb-true, leb-true, lt-ltb, le-ltb, le-leb, not-true}
-use Rattle.element.specs.Size.{sizeOf, isSize}
+use Rattle.element.specs.Size.{sizeOf, isSize, isResult}
+use Rattle.element.specs.Units.{logOf}
 use Rattle.element.proofs.Below.{both, is-true, below}
 use Rattle.element.proofs.Tests.{both-yes}
-use Rattle.encoding.specs.Instructions.{isZ, narrowInRange, rawSize, dupOffset, rawDupBits, narrowSize}
+use Rattle.encoding.specs.Instructions.{isZ, narrowInRange, dupOffset, rawDupBits, narrowSize}
 use Rattle.encoding.proofs.Apart.{decide}
 
 or-right : (a b : Bool) → a ≡ false → T (a || b) → T b
@@ -24,21 +25,12 @@ size-cases P a b c d n =
     (λ e′. decide (eqb n 32) (λ e″ _. rw (eqb-true n 32 e″) c)
     (λ e″ h. rw (eqb-true n 64 (simp (e, e′, e″) at h)) d)))
 
-pub record RawSize (n : ℕ) : Type 0 where
-  pub lt : rawSize n < 4
-  pub back : 8 * 2 ^ rawSize n ≡ n
-
-pub raw-size : (n : ℕ) → isSize n ≡ true → RawSize n
-raw-size =
-    size-cases RawSize (record { lt = lit< tt; back = refl }) (record { lt = lit< tt; back = refl })
-    (record { lt = lit< tt; back = refl }) (record { lt = lit< tt; back = refl })
-
-pub size-raw : (s : ℕ) → s < 4 → (rawSize (8 * 2 ^ s) ≡ s) × (isSize (8 * 2 ^ s) ≡ true)
-size-raw zero h = (refl, refl)
-size-raw (suc zero) h = (refl, refl)
-size-raw (suc (suc zero)) h = (refl, refl)
-size-raw (suc (suc (suc zero))) h = (refl, refl)
-size-raw (suc (suc (suc (suc n)))) h = absurd (omega arith)
+pub log-size : (s : ℕ) → s < 4 → (logOf (8 * 2 ^ s) ≡ s) × (isSize (8 * 2 ^ s) ≡ true)
+log-size zero h = (refl, refl)
+log-size (suc zero) h = (refl, refl)
+log-size (suc (suc zero)) h = (refl, refl)
+log-size (suc (suc (suc zero))) h = (refl, refl)
+log-size (suc (suc (suc (suc n)))) h = absurd (omega arith)
 
 -- ---- DUP: the bits i1:tszh:tszl, by a test over all of them and one over the offsets of each size
 bits-of : ℕ → ℕ → Bool
@@ -97,16 +89,16 @@ dup-divisor i b hi hb e =
 
 -- ---- LUTI4: its sizes, and the strided first register
 pub record LutiSize (n : ℕ) : Type 0 where
-  pub lt : rawSize n < 4
-  pub one-of : (eqb (rawSize n) 1 || eqb (rawSize n) 2) ≡ true
-  pub back : 8 * 2 ^ rawSize n ≡ n
+  pub lt : logOf n < 4
+  pub one-of : (eqb (logOf n) 1 || eqb (logOf n) 2) ≡ true
+  pub back : 8 * 2 ^ logOf n ≡ n
 
 pub luti-size : (n : ℕ) → (eqb n 16 || eqb n 32) ≡ true → LutiSize n
 luti-size n e =
     decide (eqb n 16) (λ h. rw (eqb-true n 16 h) (record { lt = lit< tt; one-of = refl; back = refl }))
     (λ h. rw (eqb-true n 32 (simp h at e)) (record { lt = lit< tt; one-of = refl; back = refl }))
 
-pub size-luti : (s : ℕ) → (eqb s 1 || eqb s 2) ≡ true → ((eqb (8 * 2 ^ s) 16 || eqb (8 * 2 ^ s) 32) ≡ true) × (rawSize (8 * 2 ^ s) ≡ s)
+pub size-luti : (s : ℕ) → (eqb s 1 || eqb s 2) ≡ true → ((eqb (8 * 2 ^ s) 16 || eqb (8 * 2 ^ s) 32) ≡ true) × (logOf (8 * 2 ^ s) ≡ s)
 size-luti s e = decide (eqb s 1) (λ h. rw (eqb-true s 1 h) (refl, refl)) (λ h. rw (eqb-true s 2 (simp h at e)) (refl, refl))
 
 -- 0..3 or 16..19, as D and the low two bits
@@ -143,7 +135,7 @@ tested-shift n k h t =
     let d = both (eqb (narrowSize ((2 * n - k) / 8)) n) (eqb (2 * n - (2 * n - k)) k) (b .1) in
     record { lt = ltb→lt (2 * n - k) 64 (c .0); some = is-true (not (eqb ((2 * n - k) / 8) 0)) (c .1); size-back = eqb→eq (narrowSize ((2 * n - k) / 8)) n (d .0); shift-back = eqb→eq (2 * n - (2 * n - k)) k (d .1) }
 
-pub narrow-cases : (P : ℕ → Type 0) → P 8 → P 16 → P 32 → (n : ℕ) → (eqb n 8 || eqb n 16 || eqb n 32) ≡ true → P n
+pub narrow-cases : (P : ℕ → Type 0) → P 8 → P 16 → P 32 → (n : ℕ) → isResult n ≡ true → P n
 narrow-cases P a b c n =
     decide (eqb n 8) (λ e _. rw (eqb-true n 8 e) a)
     (λ e. decide (eqb n 16) (λ e′ _. rw (eqb-true n 16 e′) b) (λ e′ h. rw (eqb-true n 32 (simp (e, e′) at h)) c))
@@ -151,7 +143,7 @@ narrow-cases P a b c n =
 shift-lt : (n k : ℕ) → n ≤ 32 → (leb 1 k && leb k n) ≡ true → k < 33
 shift-lt n k l h = let u = leb-true k n (both-yes (leb 1 k) (leb k n) h .1) in omega arith
 
-pub narrow-bits : (n : ℕ) → (eqb n 8 || eqb n 16 || eqb n 32) ≡ true → (k : ℕ) → (leb 1 k && leb k n) ≡ true → ShiftBits n k
+pub narrow-bits : (n : ℕ) → isResult n ≡ true → (k : ℕ) → (leb 1 k && leb k n) ≡ true → ShiftBits n k
 unfolding shift-bits
 narrow-bits =
     narrow-cases (λ n. (k : ℕ) → (leb 1 k && leb k n) ≡ true → ShiftBits n k)
@@ -164,7 +156,7 @@ bits-shift v = eqb (v / 8) 0 || (narrowInRange (narrowSize (v / 8)) (2 * narrowS
 
 -- of tszh:tszl and of tszh:tszl:imm3
 pub record ShiftRead (tsz v : ℕ) : Type 0 where
-  pub size : (eqb (narrowSize tsz) 8 || eqb (narrowSize tsz) 16 || eqb (narrowSize tsz) 32) ≡ true
+  pub size : isResult (narrowSize tsz) ≡ true
   pub shift : (leb 1 (2 * narrowSize tsz - v) && leb (2 * narrowSize tsz - v) (narrowSize tsz)) ≡ true
   pub back : 2 * narrowSize tsz - (2 * narrowSize tsz - v) ≡ v
 
@@ -172,7 +164,7 @@ pub narrow-read : (v : ℕ) → v < 64 → eqb (v / 8) 0 ≡ false → ShiftRead
 unfolding bits-shift
 narrow-read v h n =
     let s = narrowSize (v / 8) in
-    let size : Bool = eqb s 8 || eqb s 16 || eqb s 32 in
+    let size : Bool = isResult s in
     let shift : Bool = leb 1 (2 * s - v) && leb (2 * s - v) s in
     let a = both (size && shift && (isZ 0 && isZ 0)) (eqb (2 * s - (2 * s - v)) v) (or-right (eqb (v / 8) 0) _ n (below bits-shift 64 tt v h)) in
     let b = both (size && shift) (isZ 0 && isZ 0) (a .0) in

@@ -5,14 +5,16 @@ use Prim.Native.Nat.{ℕ, _+_, _-_, _*_, _%_, _/_, _<_, _≤_}
 use native.Mathlib.Omega.{arith}
 use lib.Dec.{eqb, ltb, leb, lit<}
 use borrow.Author.Tests.{eqb-true, ltb-true, leb-true}
-use Rattle.element.specs.Size.{isSize}
+use Rattle.element.specs.Size.{isSize, isResult}
+use Rattle.element.specs.Units.{Log, logOf}
 use Rattle.element.proofs.Tests.{both-yes}
+use Rattle.element.proofs.Units.{log-is, size-is}
 use Rattle.encoding.specs.Instructions.{isP, isZ, pextInRange, dupInRange, lutiInRange, narrowInRange, inRange, rawDupBits, rawOf}
 use Rattle.encoding.specs.Rows.{rowOf}
 use Rattle.encoding.specs.declared.Instruction.{Instruction}
 use Rattle.encoding.specs.declared.Instruction.the-variants.{Pext1, Pext2, Dup, Luti4c, Luti4s, Uqrshrnb}
 use Rattle.encoding.proofs.LayoutLaws.{Fit}
-use Rattle.encoding.proofs.FieldBits.{RawSize, raw-size, DupBits, dup-bits, luti-size, strided-zd, narrow-bits}
+use Rattle.encoding.proofs.FieldBits.{DupBits, dup-bits, luti-size, strided-zd, narrow-bits}
 
 -- the fields that it is written with fit its row, meet its condition, and are read as it
 pub record Reads (i : Instruction) : Type 0 where
@@ -22,7 +24,7 @@ pub record Reads (i : Instruction) : Type 0 where
 
 -- ---- PEXT, over the bound of its portion
 pub record Pext (bound size portion counter pd : ℕ) : Type 0 where
-  pub size-raw : RawSize size
+  pub size-log : Log size (logOf size)
   pub portion-lt : portion < bound
   pub counter-ge : 8 ≤ counter
   pub counter-lt : counter < 16
@@ -34,7 +36,7 @@ pext-ranges bound size portion counter pd e =
     let b = both-yes (isSize size && ltb portion bound) (leb 8 counter && ltb counter 16) (a .0) in
     let c = both-yes (isSize size) (ltb portion bound) (b .0) in
     let d = both-yes (leb 8 counter) (ltb counter 16) (b .1) in
-    record { size-raw = raw-size size (c .0); portion-lt = ltb-true portion bound (c .1); counter-ge = leb-true 8 counter (d .0); counter-lt = ltb-true counter 16 (d .1); pd-lt = ltb-true pd 16 (a .1) }
+    record { size-log = log-is size (size-is size (c .0)); portion-lt = ltb-true portion bound (c .1); counter-ge = leb-true 8 counter (d .0); counter-lt = ltb-true counter 16 (d .1); pd-lt = ltb-true pd 16 (a .1) }
 
 above : (k n : ℕ) → k ≤ n → k + (n - k) ≡ n
 above k n h = omega arith
@@ -106,10 +108,10 @@ luti4s-reads size i1 zn zd e =
 
 -- ---- UQRSHRNB
 pub narrow-ranges : (size shift zn zd : ℕ) → narrowInRange size shift zn zd ≡ true
-    → ((eqb size 8 || eqb size 16 || eqb size 32) ≡ true) × ((leb 1 shift && leb shift size) ≡ true) × (zn < 32) × (zd < 32)
+    → (isResult size ≡ true) × ((leb 1 shift && leb shift size) ≡ true) × (zn < 32) × (zd < 32)
 narrow-ranges size shift zn zd e =
-    let a = both-yes ((eqb size 8 || eqb size 16 || eqb size 32) && (leb 1 shift && leb shift size)) (isZ zn && isZ zd) e in
-    let b = both-yes (eqb size 8 || eqb size 16 || eqb size 32) (leb 1 shift && leb shift size) (a .0) in
+    let a = both-yes (isResult size && (leb 1 shift && leb shift size)) (isZ zn && isZ zd) e in
+    let b = both-yes (isResult size) (leb 1 shift && leb shift size) (a .0) in
     let z = both-yes (isZ zn) (isZ zd) (a .1) in
     (b .0, b .1, ltb-true zn 32 (z .0), ltb-true zd 32 (z .1))
 
@@ -131,16 +133,16 @@ pub in-range-reads : (i : Instruction) → inRange i ≡ true → Reads i
 in-range-reads (Pext1 size imm2 counter pd) e =
     let r = pext-ranges 4 size imm2 counter pd e in
     record {
-      fit = (lit< tt, (r .size-raw .lt, (lit< tt, (lit< tt, (r .portion-lt, (omega (arith, r .counter-lt), (lit< tt, (r .pd-lt, tt))))))));
+      fit = (lit< tt, (r .size-log .small, (lit< tt, (lit< tt, (r .portion-lt, (omega (arith, r .counter-lt), (lit< tt, (r .pd-lt, tt))))))));
       holds = refl;
-      back = simp (r .size-raw .back, above 8 counter (r .counter-ge));
+      back = simp (sym (r .size-log .is), above 8 counter (r .counter-ge));
     }
 in-range-reads (Pext2 size i1 counter pd) e =
     let r = pext-ranges 2 size i1 counter pd e in
     record {
-      fit = (lit< tt, (r .size-raw .lt, (lit< tt, (lit< tt, (lit< tt, (r .portion-lt, (omega (arith, r .counter-lt), (lit< tt, (r .pd-lt, tt)))))))));
+      fit = (lit< tt, (r .size-log .small, (lit< tt, (lit< tt, (lit< tt, (r .portion-lt, (omega (arith, r .counter-lt), (lit< tt, (r .pd-lt, tt)))))))));
       holds = refl;
-      back = simp (r .size-raw .back, above 8 counter (r .counter-ge));
+      back = simp (sym (r .size-log .is), above 8 counter (r .counter-ge));
     }
 in-range-reads (Dup size offset index pg pn pd) e = dup-reads size offset index pg pn pd (dup-ranges size offset index pg pn pd e)
 in-range-reads (Luti4c size i1 zn zd) e = luti4c-reads size i1 zn zd e

@@ -10,7 +10,7 @@ use Rattle.encoding.specs.Layout.{fieldsOf}
 use Rattle.encoding.specs.Instructions.{pextInRange, inRange, rawPext, rawOf}
 use Rattle.encoding.specs.Rows.{Row, pext1, pext2, dup, luti4c, luti4s, uqrshrnb}
 use Rattle.encoding.specs.declared.Instruction.{Instruction}
-use Rattle.encoding.proofs.FieldBits.{size-raw, dup-read, size-luti, zd-strided, ShiftRead, narrow-read}
+use Rattle.encoding.proofs.FieldBits.{log-size, dup-read, size-luti, zd-strided, ShiftRead, narrow-read}
 
 -- an instruction in range whose fields are xs
 pub record Writes (i : Instruction) (xs : List ℕ) : Type 0 where
@@ -22,8 +22,8 @@ pext-in-range bound s p n d hs hp hn hd =
     let l : 8 ≤ 8 + n = omega arith in
     let u : 8 + n < 16 = omega arith in
     let m : 8 + n - 8 ≡ n = omega arith in (
-      simp (size-raw s hs .1, lt-ltb p bound hp, le-leb 8 (8 + n) l, lt-ltb (8 + n) 16 u, lt-ltb d 16 hd),
-      ap₂ (λ (x y : ℕ). x ∷ p ∷ y ∷ d ∷ []) (size-raw s hs .0) m,
+      simp (log-size s hs .1, lt-ltb p bound hp, le-leb 8 (8 + n) l, lt-ltb (8 + n) 16 u, lt-ltb d 16 hd),
+      ap₂ (λ (x y : ℕ). x ∷ p ∷ y ∷ d ∷ []) (log-size s hs .0) m,
     )
 
 dup-writes : (a b c m pg pn pd : ℕ) → a < 2 → b < 2 → c < 8 → m < 4 → pg < 16 → pn < 16 → pd < 16 → not (eqb (b * 8 + c) 0) ≡ true

@@ -5,9 +5,10 @@ use Prim.Native.Nat.{ℕ}
 use lib.Dec.{eqb, leb, ltb}
 use borrow.Author.Tests.{eqb-true, ltb-true, leb-true}
 use Rattle.setting.specs.Allowed.{lengthAllowed}
+use Rattle.element.specs.Size.{isResult}
 use Rattle.element.proofs.Tests.{both-yes}
 use Rattle.part.proofs.Lengths.{lengths-of}
-use Rattle.narrow.specs.Calls.{isResult, restReady, narrowReady}
+use Rattle.narrow.specs.Calls.{restReady, narrowReady}
 use Rattle.narrow.specs.Needed.{NarrowReady}
 
 module _ (z vl size shift zn zd : ℕ) where
