@@ -10,6 +10,7 @@ use Rattle.element.specs.Size.{sizeOf, isSize, isResult}
 use Rattle.element.specs.Units.{logOf}
 use Rattle.element.proofs.Below.{both, is-true, below}
 use Rattle.element.proofs.Tests.{both-yes}
+use Rattle.element.proofs.Units.{size-cases}
 use Rattle.encoding.specs.Instructions.{isZ, narrowInRange, dupOffset, rawDupBits, narrowSize}
 use Rattle.encoding.proofs.Apart.{decide}
 
@@ -18,13 +19,6 @@ or-right true b e t = let z : _≡_ {A = ℕ} 0 1 = cc in absurd (omega arith)
 or-right false b e t = t
 
 -- ---- element sizes
-pub size-cases : (P : ℕ → Type 0) → P 8 → P 16 → P 32 → P 64 → (n : ℕ) → isSize n ≡ true → P n
-size-cases P a b c d n =
-    decide (eqb n 8) (λ e _. rw (eqb-true n 8 e) a)
-    (λ e. decide (eqb n 16) (λ e′ _. rw (eqb-true n 16 e′) b)
-    (λ e′. decide (eqb n 32) (λ e″ _. rw (eqb-true n 32 e″) c)
-    (λ e″ h. rw (eqb-true n 64 (simp (e, e′, e″) at h)) d)))
-
 pub log-size : (s : ℕ) → s < 4 → (logOf (8 * 2 ^ s) ≡ s) × (isSize (8 * 2 ^ s) ≡ true)
 log-size zero h = (refl, refl)
 log-size (suc zero) h = (refl, refl)
