@@ -2,7 +2,7 @@
 use mathlib.Core.Path.{_≡_, refl, sym, ap, _∙_}
 use mathlib.Core.Bool.{Bool, true, false}
 use mathlib.Core.List.{List, [], _∷_, _++_, append-assoc, append-nil}
-use Prim.Native.Nat.{ℕ, zero, suc, _+_, _-_, _*_, _/_, _%_, _≤_, _<_}
+use Prim.Native.Nat.{ℕ, zero, suc, _+_, _-_, _*_, _/_, _%_, _^_, _≤_, _<_}
 use native.Mathlib.Nat.{suc-mul, mul-le-mul-right, zero-mul, mul-one, mod-eq-of-lt, mul-assoc, add-zero, add-suc}
 use native.Mathlib.Numerals.{add-one}
 use native.Mathlib.Omega.{arith}
@@ -26,19 +26,19 @@ bytes-length (suc n) x = ap suc (bytes-length n (x / 256))
 pub part-length : (i n w : ℕ) (s : List ℕ) → i < n → length s ≡ n * w → length (take (i * w + w - i * w) (drop (i * w) s)) ≡ w
 part-length i n w s h l = simp (length-take, length-drop) (omega (arith, turn i n w h))
 
--- a digit's bounds, and a byte's
+-- a digit's bounds, and those of a number of n digits
 pub digit-lt : (b : Bool) → digit b < 2
 digit-lt true = omega arith
 digit-lt false = omega arith
 
-pub gather-lt : (g : ℕ → Bool) (i : ℕ) → gather g i 8 < 256
+pub gather-lt : (g : ℕ → Bool) (n i : ℕ) → gather g i n < 2 ^ n
 unfolding gather
-gather-lt g i =
-    omega (arith, digit-lt (g i), digit-lt (g (i + 1)), digit-lt (g (i + 1 + 1)), digit-lt (g (i + 1 + 1 + 1)), digit-lt (g (i + 1 + 1 + 1 + 1)), digit-lt (g (i + 1 + 1 + 1 + 1 + 1)), digit-lt (g (i + 1 + 1 + 1 + 1 + 1 + 1)), digit-lt (g (i + 1 + 1 + 1 + 1 + 1 + 1 + 1)))
+gather-lt g zero i = omega arith
+gather-lt g (suc n) i = omega (arith, digit-lt (g i), gather-lt g n (i + 1))
 
 pub octet-lt : (g : ℕ → Bool) (k : ℕ) → octet g k < 256
 unfolding octet
-octet-lt g k = gather-lt g (8 * k)
+octet-lt g k = gather-lt g 8 (8 * k)
 
 -- equal digits, equal numbers
 pub gather-same : (g h : ℕ → Bool) (n i i′ : ℕ) → ((j : ℕ) → j < n → g (i + j) ≡ h (i′ + j)) → gather g i n ≡ gather h i′ n
