@@ -5,6 +5,7 @@ ghost use Prim.Native.Nat.{_+_, _-_, _*_, _/_, _%_, _<_, _≤_};
 ghost use Rattle.encoding.specs.Layout.{wordOf};
 ghost use Rattle.encoding.specs.Instructions.{rawDupBits, inRange, rawOf};
 ghost use Rattle.encoding.specs.Rows.{rowOf};
+use element::log_of;
 use encoding::Instruction;
 
 // DUP's i1:tszh:tszl.
@@ -61,13 +62,13 @@ pub(crate) fn word_of(instruction: Instruction) -> u32
             imm2,
             counter,
             pd,
-        } => pext(0x25207010, element::log_of(size), imm2, counter, pd),
+        } => pext(0x25207010, log_of(size), imm2, counter, pd),
         Instruction::Pext2 {
             size,
             i1,
             counter,
             pd,
-        } => pext(0x25207410, element::log_of(size), i1, counter, pd),
+        } => pext(0x25207410, log_of(size), i1, counter, pd),
         Instruction::Dup {
             size,
             offset,
@@ -76,20 +77,8 @@ pub(crate) fn word_of(instruction: Instruction) -> u32
             pn,
             pd,
         } => dup(dup_bits(size, offset), index, pg, pn, pd),
-        Instruction::Luti4c { size, i1, zn, zd } => luti(
-            0xc08a8000,
-            element::log_of(size),
-            i1,
-            zn,
-            zd,
-        ),
-        Instruction::Luti4s { size, i1, zn, zd } => luti(
-            0xc09a8000,
-            element::log_of(size),
-            i1,
-            zn,
-            zd,
-        ),
+        Instruction::Luti4c { size, i1, zn, zd } => luti(0xc08a8000, log_of(size), i1, zn, zd),
+        Instruction::Luti4s { size, i1, zn, zd } => luti(0xc09a8000, log_of(size), i1, zn, zd),
         Instruction::Uqrshrnb {
             size,
             shift,
