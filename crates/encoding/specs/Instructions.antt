@@ -26,10 +26,10 @@ readPext2 xs = Pext2 (8 * 2 ^ raw xs 0) (raw xs 1) (8 + raw xs 2) (raw xs 3)
 abbrev pub dupOffset : ℕ → ℕ
 dupOffset t = t / (sizeOf t / 4)
 
--- i1, tszh, tszl, Rm, Pg, Pn, Pd
 abbrev pub dupBits : List ℕ → ℕ
 dupBits xs = raw xs 0 * 16 + (raw xs 1 * 8 + raw xs 2)
 
+-- i1, tszh, tszl, Rm, Pg, Pn, Pd
 abbrev pub readDup : List ℕ → Instruction
 readDup xs = Dup (sizeOf (dupBits xs)) (dupOffset (dupBits xs)) (12 + raw xs 3) (raw xs 4) (raw xs 5) (raw xs 6)
 
@@ -45,10 +45,10 @@ readLuti4s xs = Luti4s (8 * 2 ^ raw xs 1) (raw xs 0) (raw xs 2) (16 * raw xs 3 +
 abbrev pub narrowSize : ℕ → ℕ
 narrowSize tsz = pick (ltb tsz 2) 8 (pick (ltb tsz 4) 16 32)
 
--- tszh, tszl, imm3, Zn, Zd
 abbrev pub narrowTsz : List ℕ → ℕ
 narrowTsz xs = raw xs 0 * 4 + raw xs 1
 
+-- tszh, tszl, imm3, Zn, Zd
 abbrev pub readUqrshrnb : List ℕ → Instruction
 readUqrshrnb xs = Uqrshrnb (narrowSize (narrowTsz xs)) (2 * narrowSize (narrowTsz xs) - (narrowTsz xs * 8 + raw xs 2)) (raw xs 3) (raw xs 4)
 

@@ -20,7 +20,7 @@ pub(crate) enum Task {
     Run,
 }
 
-// What is asked: the sixteen numbers in the order above, and what the machine made from them does.
+// What is asked: the setting, the sixteen numbers in the order above, and the task of the machine made from them.
 pub(crate) struct Asked {
     pub(crate) setting: Setting,
     pub(crate) start: [u32; 16],
