@@ -1,39 +1,27 @@
 -- The allowed lengths are powers of two, so a count's bits are those below VL; and the size that a counter says.
 use mathlib.Core.Path.{_≡_, refl, sym, ap, ap₂, _∙_}
 use mathlib.Core.Bool.{Bool, true, _||_}
-use mathlib.Core.Logic.{⊎-elim, _⊎_, inl, inr}
+use mathlib.Core.Logic.{_⊎_, inl, inr}
 use Prim.Native.Nat.{ℕ, zero, suc, _+_, _-_, _*_, _/_, _%_, _^_, _≤_, _<_}
 use native.Mathlib.Omega.{arith}
 use lib.Bits.{bitAnd, and-block, and-self}
 use lib.Count.{trailingZeros}
 use lib.Dec.{T, eqb, eqb→eq, lit<, lit≤}
 use lib.Pow.{field, mod-mod-pow}
-use borrow.Author.Tests.{eqb-true, ne-eqb}
+use borrow.Author.Tests.{ne-eqb}
 use Rattle.setting.specs.Allowed.{lengthAllowed}
+use Rattle.setting.proofs.Lengths.{length-cases}
 use Rattle.element.specs.Size.{sizeOf}
 use Rattle.element.specs.Units.{Log}
 use Rattle.element.proofs.Below.{below}
 use Rattle.element.proofs.Sizes.{zeros-lt}
-use Rattle.element.proofs.Tests.{one-yes}
 use Rattle.counter.specs.Counter.{zeros, topBit, countOf, inverts}
 use Rattle.counter.specs.Strips.{Length}
-
--- one of five
-cases : (P : ℕ → Type 0) → P 128 → P 256 → P 512 → P 1024 → P 2048 → (vl : ℕ) → lengthAllowed vl ≡ true → P vl
-cases P p q r s t vl h =
-    ⊎-elim
-    (λ h. ⊎-elim
-    (λ h. ⊎-elim
-    (λ h. ⊎-elim (λ (e : eqb vl 128 ≡ true). rw (eqb-true vl 128 e) p) (λ (e : eqb vl 256 ≡ true). rw (eqb-true vl 256 e) q) (one-yes (eqb vl 128) (eqb vl 256) h))
-    (λ (e : eqb vl 512 ≡ true). rw (eqb-true vl 512 e) r) (one-yes (eqb vl 128 || eqb vl 256) (eqb vl 512) h))
-    (λ (e : eqb vl 1024 ≡ true). rw (eqb-true vl 1024 e) s) (one-yes (eqb vl 128 || eqb vl 256 || eqb vl 512) (eqb vl 1024) h))
-    (λ (e : eqb vl 2048 ≡ true). rw (eqb-true vl 2048 e) t)
-    (one-yes (eqb vl 128 || eqb vl 256 || eqb vl 512 || eqb vl 1024) (eqb vl 2048) h)
 
 pub length-is : (vl : ℕ) → lengthAllowed vl ≡ true → Length vl
 unfolding topBit trailingZeros
 length-is =
-    cases Length
+    length-cases Length
     (record { least = lit≤ tt; most = lit≤ tt; even = refl; above = lit< tt; under = lit< tt; power = refl })
     (record { least = lit≤ tt; most = lit≤ tt; even = refl; above = lit< tt; under = lit< tt; power = refl })
     (record { least = lit≤ tt; most = lit≤ tt; even = refl; above = lit< tt; under = lit< tt; power = refl })
@@ -42,7 +30,7 @@ length-is =
 
 pub top-bit : (vl : ℕ) → lengthAllowed vl ≡ true → 2 ^ topBit vl ≡ 4 * (vl / 8)
 unfolding topBit trailingZeros
-top-bit = cases (λ vl. 2 ^ topBit vl ≡ 4 * (vl / 8)) refl refl refl refl refl
+top-bit = length-cases (λ vl. 2 ^ topBit vl ≡ 4 * (vl / 8)) refl refl refl refl refl
 
 -- the lowest 1 of a number's low four bits: tests over them
 drops : ℕ → Bool

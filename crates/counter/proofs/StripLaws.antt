@@ -1,17 +1,16 @@
 -- A strip of an expansion, byte by byte, is the strip bit by bit: once over the length, the two sizes and the start.
 use mathlib.Core.Path.{_≡_, refl, sym, ap, _∙_}
-use mathlib.Core.Bool.{Bool, true, false, _&&_, and-assoc, and-false}
+use mathlib.Core.Bool.{Bool, false, _&&_, and-assoc, and-false}
 use Prim.Native.Nat.{ℕ, _+_, _-_, _*_, _/_, _%_, _^_, _≤_, _<_, max}
 use native.Mathlib.Nat.{div-lt-iff-lt-mul}
 use native.Mathlib.Decide.{decLt}
 use native.Mathlib.Omega.{arith}
-use lib.Dec.{T, eqb, ltb}
+use lib.Dec.{eqb, ltb}
 use lib.Pow.{pow-pos}
 use borrow.Author.Tests.{lt-ltb, le-ltb, eq-eqb, ne-eqb}
-use Rattle.element.specs.Size.{pick}
 use Rattle.element.specs.Contents.{fill, gather, octet, row}
 use Rattle.element.specs.Every.{all}
-use Rattle.element.proofs.Below.{below}
+use Rattle.element.proofs.Below.{agree, agree-eq, below}
 use Rattle.element.proofs.Units.{Unit, unit, low-bits, unit-of}
 use Rattle.element.proofs.Filling.{gather-same, same}
 use Rattle.counter.specs.Counter.{zeros, countOf, inverts, flipped, elementOf, expansionBit}
@@ -38,25 +37,13 @@ lt-past m j t = go (decLt (m + j) t)
     go (no q) = le-ltb (m + j) t (omega arith) ∙ sym (le-ltb j (t - m) (omega arith))
 
 -- of two sizes the larger's places are those of both: a test over the bits of a byte and the sizes
-alike : Bool → Bool → Bool
-alike true b = b
-alike false b = pick b false true
-
-alike-eq : (a b : Bool) → T (alike a b) → a ≡ b
-unfolding alike
-alike-eq true true t = refl
-alike-eq true false t = absurd t
-alike-eq false true t = absurd t
-alike-eq false false t = refl
-
 nested : ℕ → ℕ → ℕ → Bool
-unfolding alike
-nested j s z = alike (eqb (j % 2 ^ s) 0 && eqb (j % 2 ^ z) 0) (eqb (j % 2 ^ max z s) 0)
+nested j s z = agree (eqb (j % 2 ^ s) 0 && eqb (j % 2 ^ z) 0) (eqb (j % 2 ^ max z s) 0)
 
 both-sizes : (j s z : ℕ) → j < 8 → s < 4 → z < 4 → (eqb (j % 2 ^ s) 0 && eqb (j % 2 ^ z) 0) ≡ eqb (j % 2 ^ max z s) 0
-unfolding nested alike
+unfolding nested
 both-sizes j s z hj hs hz =
-    alike-eq (eqb (j % 2 ^ s) 0 && eqb (j % 2 ^ z) 0) (eqb (j % 2 ^ max z s) 0)
+    agree-eq (eqb (j % 2 ^ s) 0 && eqb (j % 2 ^ z) 0) (eqb (j % 2 ^ max z s) 0)
     (below (nested j s) 4 (below (λ (x : ℕ). all (nested j x) 4) 4 (below (λ (i : ℕ). all (λ x. all (nested i x) 4) 4) 8 tt j hj) s hs) z hz)
 
 module _ (vl c s from : ℕ) (small : s < 4) (whole : from % 8 ≡ 0) (ne : c % 16 ≡ 0 → ⊥) where

@@ -37,13 +37,14 @@ elementOf vl c e = flipped (inverts c) (ltb e (countOf vl c))
 unfoldable pub expansionBit : ℕ → ℕ → ℕ → Bool
 expansionBit vl c b = not (eqb (c % 16) 0) && (eqb (b % (sizeOf c / 8)) 0 && elementOf vl c (b / (sizeOf c / 8)))
 
--- the 4·PL bits
+-- the 4·PL bits, which document 01 calls the mask
 unfoldable pub expansionOf : ℕ → ℕ → List ℕ
 expansionOf vl c = row (expansionBit vl c) (vl / 16)
 
--- the expansion, none for a VL that is not allowed, with zeros behind it to 128 bytes
+-- some bytes with zeros behind them, 128 in all
 unfoldable pub padded : List ℕ → List ℕ
 padded s = s ++ replicate (128 - length s) 0
 
+-- the expansion, none for a VL that is not allowed, in the 128 bytes that the longest takes
 abbrev pub maskOf : ℕ → ℕ → List ℕ
 maskOf vl c = padded (pick (lengthAllowed vl) (expansionOf vl c) [])

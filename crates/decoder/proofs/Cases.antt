@@ -1,6 +1,6 @@
 -- What `decodeOf` is in each case that the code meets, over plain numbers: what the functions' proofs cite.
 use mathlib.Core.Path.{_≡_, refl, sym, ap, _∙_}
-use mathlib.Core.Bool.{Bool, true, false, _&&_}
+use mathlib.Core.Bool.{Bool, true, false, _&&_, and-true, and-assoc}
 use mathlib.Core.List.{List, [], map}
 use Prim.Native.Nat.{ℕ, suc, _^_, _<_, _≤_}
 use native.Mathlib.Omega.{arith}
@@ -13,16 +13,14 @@ use Rattle.setting.specs.Numbers.{Outcome, accept, refuse}
 use Rattle.setting.specs.declared.Setting.{Setting}
 use Rattle.element.specs.Size.{pick}
 use Rattle.element.proofs.Below.{below}
-use Rattle.encoding.specs.Layout.{Piece, width, fieldsOf, wordOf, matches}
-use Rattle.encoding.specs.Instructions.{inRange, rawOf}
-use Rattle.encoding.specs.Rows.{Row, rows, rowOf, rowMatches, pext1, pext2, dup, luti4c, luti4s, uqrshrnb}
+use Rattle.element.proofs.Tests.{both-yes}
+use Rattle.encoding.specs.Layout.{Piece, width, fieldsOf, matches}
+use Rattle.encoding.specs.Rows.{Row, rows, rowMatches, pext1, pext2, dup, luti4c, luti4s, uqrshrnb}
 use Rattle.encoding.specs.Forms.{placeOf, layoutAt, placeFirst, placeIn}
 use Rattle.encoding.specs.Decode.{firstOf, decodeOf}
-use Rattle.encoding.specs.Encode.{written, unwritten, encodeOf}
 use Rattle.encoding.specs.declared.Instruction.{Instruction}
 use Rattle.encoding.proofs.LayoutLaws.{sound, maskOf, fixedOf, matches-masked, masked-matches}
 use Rattle.encoding.proofs.Apart.{decide, apart, not-both}
-use Rattle.encoding.proofs.FieldLaws.{and-true}
 use Rattle.encoding.proofs.Choice.{readAt, read-past, first-is-read, first-matches}
 
 -- ---- a layout by the tables of masks and fixed bits
@@ -65,14 +63,6 @@ places false false false false false true = refl
 places false false false false false false = refl
 
 -- a row's test as the code makes it: the layout, and the rest; PEXT has no field condition
-three : (a b c : Bool) → (a && (b && c)) ≡ (a && b && c)
-three true b c = refl
-three false b c = refl
-
-and-yes : (a : Bool) → a && true ≡ a
-and-yes true = refl
-and-yes false = refl
-
 abbrev pub rest : Row → ℕ → ℕ → Bool
 rest r f w = r .features f && r .condition (fieldsOf (r .layout) w)
 
@@ -85,12 +75,12 @@ unfolding placeFirst
 place-by-tests f w =
     let m : List Piece → Bool = λ l. matches l w in
     rw (
-      and-yes (m (pext1 .layout) && pext1 .features f),
-      and-yes (m (pext2 .layout) && pext2 .features f),
-      three (m (dup .layout)) (dup .features f) (dup .condition (fieldsOf (dup .layout) w)),
-      three (m (luti4c .layout)) (luti4c .features f) (luti4c .condition (fieldsOf (luti4c .layout) w)),
-      three (m (luti4s .layout)) (luti4s .features f) (luti4s .condition (fieldsOf (luti4s .layout) w)),
-      three (m (uqrshrnb .layout)) (uqrshrnb .features f) (uqrshrnb .condition (fieldsOf (uqrshrnb .layout) w)),
+      and-true (m (pext1 .layout) && pext1 .features f),
+      and-true (m (pext2 .layout) && pext2 .features f),
+      ← and-assoc (m (dup .layout)) (dup .features f) (dup .condition (fieldsOf (dup .layout) w)),
+      ← and-assoc (m (luti4c .layout)) (luti4c .features f) (luti4c .condition (fieldsOf (luti4c .layout) w)),
+      ← and-assoc (m (luti4s .layout)) (luti4s .features f) (luti4s .condition (fieldsOf (luti4s .layout) w)),
+      ← and-assoc (m (uqrshrnb .layout)) (uqrshrnb .features f) (uqrshrnb .condition (fieldsOf (uqrshrnb .layout) w)),
     )
     (places (m (pext1 .layout) && pext1 .features f) (m (pext2 .layout) && pext2 .features f) (rowMatches dup f w) (rowMatches luti4c f w) (rowMatches luti4s f w) (rowMatches uqrshrnb f w))
 
@@ -127,4 +117,4 @@ module _ (s : Setting) (w : ℕ) where
 
 -- where DUP's row is the first that matches, its field condition holds
 pub dup-condition : (f w : ℕ) → 2 ≡ placeFirst rows f w → dup .condition (fieldsOf (dup .layout) w) ≡ true
-dup-condition f w e = and-true (matches (dup .layout) w && dup .features f) (dup .condition (fieldsOf (dup .layout) w)) (first-matches rows 2 f w (lit< tt) e) .1
+dup-condition f w e = both-yes (matches (dup .layout) w && dup .features f) (dup .condition (fieldsOf (dup .layout) w)) (first-matches rows 2 f w (lit< tt) e) .1

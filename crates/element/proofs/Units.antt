@@ -45,10 +45,15 @@ log-is size =
     (⊎-elim (λ (e : size ≡ 16). rw e (record { small = lit< tt; is = refl }))
     (⊎-elim (λ (e : size ≡ 32). rw e (record { small = lit< tt; is = refl })) (λ (e : size ≡ 64). rw e (record { small = lit< tt; is = refl }))))
 
--- a number that passes the test is one of the four sizes
-pub size-is : (size : ℕ) → isSize size ≡ true → Size size
-size-is size h =
+-- what holds of each of the four sizes holds of every number that passes the test
+pub size-cases : (P : ℕ → Type 0) → P 8 → P 16 → P 32 → P 64 → (size : ℕ) → isSize size ≡ true → P size
+size-cases P a b c d size h =
     ⊎-elim
-    (λ h. ⊎-elim (λ h. ⊎-elim (λ e. inl (eqb-true size 8 e)) (λ e. inr (inl (eqb-true size 16 e))) (one-yes (eqb size 8) (eqb size 16) h)) (λ e. inr (inr (inl (eqb-true size 32 e)))) (one-yes (eqb size 8 || eqb size 16) (eqb size 32) h))
-    (λ e. inr (inr (inr (eqb-true size 64 e))))
+    (λ h. ⊎-elim
+    (λ h. ⊎-elim (λ (e : eqb size 8 ≡ true). rw (eqb-true size 8 e) a) (λ (e : eqb size 16 ≡ true). rw (eqb-true size 16 e) b) (one-yes (eqb size 8) (eqb size 16) h))
+    (λ (e : eqb size 32 ≡ true). rw (eqb-true size 32 e) c) (one-yes (eqb size 8 || eqb size 16) (eqb size 32) h))
+    (λ (e : eqb size 64 ≡ true). rw (eqb-true size 64 e) d)
     (one-yes (eqb size 8 || eqb size 16 || eqb size 32) (eqb size 64) h)
+
+pub size-is : (size : ℕ) → isSize size ≡ true → Size size
+size-is = size-cases Size (inl refl) (inr (inl refl)) (inr (inr (inl refl))) (inr (inr (inr refl)))

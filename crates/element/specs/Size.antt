@@ -15,3 +15,7 @@ sizeOf field = pick (eqb (field % 16) 0) 0 (8 * 2 ^ trailingZeros 32 (field % 16
 -- the four sizes
 abbrev pub isSize : ℕ → Bool
 isSize size = eqb size 8 || eqb size 16 || eqb size 32 || eqb size 64
+
+-- the three sizes of a result that UQRSHRNB narrows to
+abbrev pub isResult : ℕ → Bool
+isResult size = eqb size 8 || eqb size 16 || eqb size 32

@@ -1,4 +1,4 @@
--- An element of 8 · 2^z bits takes 2^z bits of a predicate: what the code goes by.
+-- An element of 8 · 2^z bits, by its z: the two bits of a size field, and 2^z bits of a predicate.
 use mathlib.Core.Path.{_≡_}
 use mathlib.Core.Logic.{_⊎_}
 use Prim.Native.Nat.{ℕ, _*_, _^_, _<_}
@@ -12,7 +12,7 @@ pub record Log (size z : ℕ) : Type 0 where
   pub small : z < 4
   pub is : size ≡ 8 * 2 ^ z
 
--- the z of a size
+-- the z of a size; 3 for a number that is none
 abbrev pub logOf : ℕ → ℕ
 logOf size = pick (eqb size 8) 0 (pick (eqb size 16) 1 (pick (eqb size 32) 2 3))
 

@@ -3,22 +3,10 @@ ghost use mathlib.Core.Path.{_≡_};
 ghost use mathlib.Core.Bool.{true};
 ghost use Prim.Native.Nat.{_+_, _-_, _*_, _/_, _%_, _<_, _≤_};
 ghost use Rattle.encoding.specs.Layout.{wordOf};
-ghost use Rattle.encoding.specs.Instructions.{rawSize, rawDupBits, inRange, rawOf};
+ghost use Rattle.encoding.specs.Instructions.{rawDupBits, inRange, rawOf};
 ghost use Rattle.encoding.specs.Rows.{rowOf};
+use element::log_of;
 use encoding::Instruction;
-
-// The size field of two bits.
-fn raw_size(size: u32) -> u32
-    ensures { λ r. ⌜ r ≡ rawSize size ⌝ }
-{
-    if size == 8 {
-        return 0;
-    }
-    if size == 16 {
-        return 1;
-    }
-    if size == 32 { 2 } else { 3 }
-}
 
 // DUP's i1:tszh:tszl.
 fn dup_bits(size: u32, offset: u32) -> u32
@@ -74,13 +62,13 @@ pub(crate) fn word_of(instruction: Instruction) -> u32
             imm2,
             counter,
             pd,
-        } => pext(0x25207010, raw_size(size), imm2, counter, pd),
+        } => pext(0x25207010, log_of(size), imm2, counter, pd),
         Instruction::Pext2 {
             size,
             i1,
             counter,
             pd,
-        } => pext(0x25207410, raw_size(size), i1, counter, pd),
+        } => pext(0x25207410, log_of(size), i1, counter, pd),
         Instruction::Dup {
             size,
             offset,
@@ -89,8 +77,8 @@ pub(crate) fn word_of(instruction: Instruction) -> u32
             pn,
             pd,
         } => dup(dup_bits(size, offset), index, pg, pn, pd),
-        Instruction::Luti4c { size, i1, zn, zd } => luti(0xc08a8000, raw_size(size), i1, zn, zd),
-        Instruction::Luti4s { size, i1, zn, zd } => luti(0xc09a8000, raw_size(size), i1, zn, zd),
+        Instruction::Luti4c { size, i1, zn, zd } => luti(0xc08a8000, log_of(size), i1, zn, zd),
+        Instruction::Luti4s { size, i1, zn, zd } => luti(0xc09a8000, log_of(size), i1, zn, zd),
         Instruction::Uqrshrnb {
             size,
             shift,

@@ -9,6 +9,7 @@ use borrow.Author.Tests.{eqb-true}
 use Rattle.setting.specs.Allowed.{allowedOf}
 use Rattle.setting.specs.Numbers.{accept, refuse}
 use Rattle.setting.specs.declared.Setting.{Setting}
+use Rattle.element.proofs.Tests.{both-yes}
 use Rattle.encoding.specs.Layout.{fieldsOf, wordOf, matches}
 use Rattle.encoding.specs.Instructions.{inRange, rawOf}
 use Rattle.encoding.specs.Rows.{Row, rows, rowOf, rowMatches, pext1, pext2, dup, luti4c, luti4s, uqrshrnb}
@@ -21,7 +22,8 @@ use Rattle.encoding.specs.declared.Instruction.the-variants.{Pext1, Pext
 use Rattle.encoding.proofs.LayoutLaws.{fields-back, word-matches}
 use Rattle.encoding.proofs.Apart.{decide}
 use Rattle.encoding.proofs.Choice.{disjoint, matchesAt, readAt, none-first, first-is-read, place-is, at-most-one, refused-none, accepted-by, first-three}
-use Rattle.encoding.proofs.FieldLaws.{and-true, in-range-reads, RowWrites, pext1-writes, pext2-writes, dup-row-writes, luti4c-row-writes, luti4s-row-writes, uqrshrnb-row-writes}
+use Rattle.encoding.proofs.InRange.{in-range-reads}
+use Rattle.encoding.proofs.WrittenBack.{RowWrites, pext1-writes, pext2-writes, dup-row-writes, luti4c-row-writes, luti4s-row-writes, uqrshrnb-row-writes}
 
 -- the six layouts are sound and pairwise apart: computed
 pub rows-disjoint : T (disjoint rows)
@@ -86,8 +88,8 @@ row-back : (s : Setting) (r : Row) → ((xs : List ℕ) → rowOf (r .reading xs
 unfolding encodeOf
 row-back s r own writes a w m =
     let xs = fieldsOf (r .layout) w in
-    let p = and-true (matches (r .layout) w && r .features (s .features)) (r .condition xs) m in
-    let q = and-true (matches (r .layout) w) (r .features (s .features)) (p .0) in
+    let p = both-yes (matches (r .layout) w && r .features (s .features)) (r .condition xs) m in
+    let q = both-yes (matches (r .layout) w) (r .features (s .features)) (p .0) in
     let b = writes w (p .1) in
     simp (a, b .range, own xs, q .1, b .back) (ap written (eqb-true (wordOf (r .layout) xs) w (q .0)))
 

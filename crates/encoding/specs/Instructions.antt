@@ -4,7 +4,8 @@ use mathlib.Core.List.{List, [], _∷_}
 use Prim.Native.Nat.{ℕ, _+_, _-_, _*_, _%_, _/_, _^_}
 use lib.Dec.{eqb, ltb, leb}
 use lib.ListN.{getD}
-use Rattle.element.specs.Size.{pick, sizeOf, isSize}
+use Rattle.element.specs.Size.{pick, sizeOf, isSize, isResult}
+use Rattle.element.specs.Units.{logOf}
 use Rattle.encoding.specs.declared.Instruction.{Instruction}
 use Rattle.encoding.specs.declared.Instruction.the-variants.{Pext1, Pext2, Dup, Luti4c, Luti4s, Uqrshrnb}
 
@@ -25,10 +26,10 @@ readPext2 xs = Pext2 (8 * 2 ^ raw xs 0) (raw xs 1) (8 + raw xs 2) (raw xs 3)
 abbrev pub dupOffset : ℕ → ℕ
 dupOffset t = t / (sizeOf t / 4)
 
--- i1, tszh, tszl, Rm, Pg, Pn, Pd
 abbrev pub dupBits : List ℕ → ℕ
 dupBits xs = raw xs 0 * 16 + (raw xs 1 * 8 + raw xs 2)
 
+-- i1, tszh, tszl, Rm, Pg, Pn, Pd
 abbrev pub readDup : List ℕ → Instruction
 readDup xs = Dup (sizeOf (dupBits xs)) (dupOffset (dupBits xs)) (12 + raw xs 3) (raw xs 4) (raw xs 5) (raw xs 6)
 
@@ -44,10 +45,10 @@ readLuti4s xs = Luti4s (8 * 2 ^ raw xs 1) (raw xs 0) (raw xs 2) (16 * raw xs 3 +
 abbrev pub narrowSize : ℕ → ℕ
 narrowSize tsz = pick (ltb tsz 2) 8 (pick (ltb tsz 4) 16 32)
 
--- tszh, tszl, imm3, Zn, Zd
 abbrev pub narrowTsz : List ℕ → ℕ
 narrowTsz xs = raw xs 0 * 4 + raw xs 1
 
+-- tszh, tszl, imm3, Zn, Zd
 abbrev pub readUqrshrnb : List ℕ → Instruction
 readUqrshrnb xs = Uqrshrnb (narrowSize (narrowTsz xs)) (2 * narrowSize (narrowTsz xs) - (narrowTsz xs * 8 + raw xs 2)) (raw xs 3) (raw xs 4)
 
@@ -69,7 +70,7 @@ abbrev pub lutiInRange : Bool → ℕ → ℕ → Bool → Bool
 lutiInRange size i1 zn first = size && ltb i1 2 && isZ zn && first
 
 abbrev pub narrowInRange : ℕ → ℕ → ℕ → ℕ → Bool
-narrowInRange size shift zn zd = (eqb size 8 || eqb size 16 || eqb size 32) && (leb 1 shift && leb shift size) && (isZ zn && isZ zd)
+narrowInRange size shift zn zd = isResult size && (leb 1 shift && leb shift size) && (isZ zn && isZ zd)
 
 abbrev pub inRange : Instruction → Bool
 inRange (Pext1 size imm2 counter pd) = pextInRange 4 size imm2 counter pd
@@ -79,12 +80,9 @@ inRange (Luti4c size i1 zn zd) = lutiInRange (eqb size 16 || eqb size 32) i1 zn 
 inRange (Luti4s size i1 zn zd) = lutiInRange (eqb size 16) i1 zn (ltb zd 4 || (leb 16 zd && ltb zd 20))
 inRange (Uqrshrnb size shift zn zd) = narrowInRange size shift zn zd
 
--- ---- the raw fields that are read as these
-abbrev pub rawSize : ℕ → ℕ
-rawSize size = pick (eqb size 8) 0 (pick (eqb size 16) 1 (pick (eqb size 32) 2 3))
-
+-- ---- the raw fields that are read as these; the field of a size of 8 · 2^z bits is z
 abbrev pub rawPext : ℕ → ℕ → ℕ → ℕ → List ℕ
-rawPext size portion counter pd = rawSize size ∷ portion ∷ (counter - 8) ∷ pd ∷ []
+rawPext size portion counter pd = logOf size ∷ portion ∷ (counter - 8) ∷ pd ∷ []
 
 -- i1:tszh:tszl
 abbrev pub rawDupBits : ℕ → ℕ → ℕ
@@ -101,6 +99,6 @@ abbrev pub rawOf : Instruction → List ℕ
 rawOf (Pext1 size imm2 counter pd) = rawPext size imm2 counter pd
 rawOf (Pext2 size i1 counter pd) = rawPext size i1 counter pd
 rawOf (Dup size offset index pg pn pd) = rawDup (rawDupBits size offset) index pg pn pd
-rawOf (Luti4c size i1 zn zd) = i1 ∷ rawSize size ∷ zn ∷ (zd / 4) ∷ []
-rawOf (Luti4s size i1 zn zd) = i1 ∷ rawSize size ∷ zn ∷ (zd / 16) ∷ (zd % 16) ∷ []
+rawOf (Luti4c size i1 zn zd) = i1 ∷ logOf size ∷ zn ∷ (zd / 4) ∷ []
+rawOf (Luti4s size i1 zn zd) = i1 ∷ logOf size ∷ zn ∷ (zd / 16) ∷ (zd % 16) ∷ []
 rawOf (Uqrshrnb size shift zn zd) = rawNarrow (2 * size - shift) zn zd

@@ -2,7 +2,6 @@
 use mathlib.Core.Path.{_≡_}
 use mathlib.Core.Bool.{true, false}
 use mathlib.Core.List.{List, [], _∷_}
-use Rattle.element.specs.Every.{Every}
 use Rattle.setting.specs.Allowed.{hasFeature, allowedOf}
 use Rattle.setting.specs.Numbers.{accept, refuse}
 use Rattle.setting.specs.declared.Feature.the-variants.{Sme2p1}

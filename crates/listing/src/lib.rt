@@ -29,7 +29,7 @@ fn name_index(word: u32) -> usize
     )
 }
 
-// Of the low byte of n. The table is lent, so that all words share one.
+// The high digit of the low byte of n, and the low one. The table is lent, so that all words share one.
 fn high(pairs: &[u8; 512], n: u32) -> u8
     requires { ⌜ Pairs (now pairs) ⌝ }
     ensures { λ r. ⌜ r ≡ glyphOf (n / 16 % 16) ⌝ }

@@ -8,7 +8,8 @@ use native.Mathlib.Omega.{arith}
 use lib.Dec.{eqb, ltb, lit<}
 use borrow.Author.Tests.{eqb-true, ltb-true, lt-ltb, le-ltb, ne-eqb}
 use Rattle.setting.specs.Allowed.{lengthAllowed}
-use Rattle.part.proofs.Tests.{and-split, or-split, lengths-of}
+use Rattle.element.proofs.Tests.{both-yes, one-yes}
+use Rattle.part.proofs.Lengths.{lengths-of}
 use Rattle.lookup.specs.Calls.{fourFit, luti4Ready}
 use Rattle.lookup.specs.Needed.{LutiReady}
 
@@ -16,13 +17,13 @@ module _ (z zt vl size i1 zn first stride : ℕ) (ready : luti4Ready z zt vl siz
   pub luti4-accepted : LutiReady z zt vl 4 size 4 (i1 % (size / 16)) zn first stride
   unfolding luti4Ready
   luti4-accepted =
-      let a = and-split _ (fourFit first stride) ready in
-      let b = and-split (eqb z 8192 && eqb zt 64 && lengthAllowed vl) ((eqb size 16 || eqb size 32) && ltb i1 2 && ltb zn 32) (a .0) in
-      let f = and-split (eqb z 8192 && eqb zt 64) (lengthAllowed vl) (b .0) in
-      let g = and-split (eqb z 8192) (eqb zt 64) (f .0) in
-      let n = and-split ((eqb size 16 || eqb size 32) && ltb i1 2) (ltb zn 32) (b .1) in
-      let s = ⊎-map (eqb-true size 16) (eqb-true size 32) (or-split (eqb size 16) (eqb size 32) (and-split (eqb size 16 || eqb size 32) (ltb i1 2) (n .0) .0)) in
-      let d = ltb-true (first + 3 * stride) 32 (and-split (eqb stride 1 || eqb stride 4) (ltb (first + 3 * stride) 32) (a .1) .1) in
+      let a = both-yes _ (fourFit first stride) ready in
+      let b = both-yes (eqb z 8192 && eqb zt 64 && lengthAllowed vl) ((eqb size 16 || eqb size 32) && ltb i1 2 && ltb zn 32) (a .0) in
+      let f = both-yes (eqb z 8192 && eqb zt 64) (lengthAllowed vl) (b .0) in
+      let g = both-yes (eqb z 8192) (eqb zt 64) (f .0) in
+      let n = both-yes ((eqb size 16 || eqb size 32) && ltb i1 2) (ltb zn 32) (b .1) in
+      let s = ⊎-map (eqb-true size 16) (eqb-true size 32) (one-yes (eqb size 16) (eqb size 32) (both-yes (eqb size 16 || eqb size 32) (ltb i1 2) (n .0) .0)) in
+      let d = ltb-true (first + 3 * stride) 32 (both-yes (eqb stride 1 || eqb stride 4) (ltb (first + 3 * stride) 32) (a .1) .1) in
       record {
         slots = eqb-true z 8192 (g .0);
         entries = eqb-true zt 64 (g .1);

@@ -9,7 +9,7 @@ use borrow.Rule.Slice.PartMut.{putMid}
 use Rattle.element.specs.Contents.{elem, field, fill}
 use Rattle.element.specs.Slots.{slot}
 use Rattle.element.proofs.Filling.{fill-length}
-use Rattle.part.proofs.Slots.{put-back}
+use Rattle.element.proofs.Slots.{put-back}
 use Rattle.lookup.specs.Lookup.{positionOf, lutiOf, lutiFile}
 use Rattle.lookup.specs.Needed.{LutiReady}
 use Rattle.lookup.proofs.Places.{each-is, elements-are}

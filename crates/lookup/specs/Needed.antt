@@ -4,7 +4,7 @@ use mathlib.Core.Logic.{_⊎_}
 use Prim.Native.Nat.{ℕ, suc, _*_, _+_, _/_, _≤_, _<_}
 use Rattle.part.specs.Parts.{Lengths}
 
--- index widths
+-- the index widths that the code can take, in bits; LUTI4's is 4
 abbrev pub Kind : ℕ → Type 0
 Kind k = (k ≡ 2) ⊎ (k ≡ 4)
 

@@ -9,7 +9,7 @@ use Rattle.element.proofs.Below.{all-true}
 use Rattle.encoding.specs.Instructions.{inRange}
 use Rattle.encoding.specs.declared.Instruction.the-variants.{Luti4c, Luti4s}
 use Rattle.encoding.proofs.Apart.{decide}
-use Rattle.encoding.proofs.FieldLaws.{luti-ranges}
+use Rattle.encoding.proofs.InRange.{luti-ranges}
 use Rattle.lookup.specs.Lookup.{positionOf}
 use Rattle.lookup.proofs.Places.{seven-never-comes}
 use Rattle.machine.specs.Step.{positionsInside}

@@ -14,7 +14,10 @@ use Rattle.element.specs.Size.{isSize}
 use Rattle.element.specs.Slots.{slot}
 use Rattle.order.specs.Touch.{gets, puts}
 use Rattle.encoding.specs.Instructions.{inRange, pextInRange, dupInRange, narrowInRange}
-use Rattle.encoding.proofs.FieldLaws.{and-true, size-cases, pext-ranges, dup-ranges, luti-ranges, strided-zd, narrow-ranges, known-range}
+use Rattle.element.proofs.Tests.{both-yes as and-true}
+use Rattle.element.proofs.Units.{size-cases}
+use Rattle.encoding.proofs.FieldBits.{strided-zd}
+use Rattle.encoding.proofs.InRange.{pext-ranges, dup-ranges, luti-ranges, narrow-ranges, known-range}
 use Rattle.encoding.specs.declared.Instruction.{Instruction}
 use Rattle.encoding.specs.declared.Instruction.the-variants.{Pext1, Pext2, Dup, Luti4c, Luti4s, Uqrshrnb}
 use Rattle.predicate.specs.Pext.{pextReady, pextSlots, pextLeaves}

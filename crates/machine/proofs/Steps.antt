@@ -16,7 +16,7 @@ use Rattle.encoding.specs.Decode.{decodeOf, decodedAs}
 use Rattle.encoding.specs.declared.Instruction.{Instruction}
 use Rattle.encoding.specs.declared.Decoded.{Decoded}
 use Rattle.encoding.specs.declared.Decoded.the-variants.{Fields, Refused}
-use Rattle.encoding.proofs.FieldLaws.{and-true}
+use Rattle.element.proofs.Tests.{both-yes as and-true}
 use Rattle.encoding.proofs.Round.{read-in-range, refused-three}
 use Rattle.machine.specs.Machine.{Machine, machine, advanced, next}
 use Rattle.machine.specs.Step.{Step, sized, firstFailed, needsOf, refusalOf, execOf, after, stepOf}

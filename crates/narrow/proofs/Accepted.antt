@@ -1,47 +1,33 @@
 -- Which calls are accepted: those of the three sizes whose other arguments are, each test of the Bool definition read as a fact.
-use mathlib.Core.Path.{_≡_, refl, ap, _∙_}
-use mathlib.Core.Bool.{Bool, true, false, _&&_}
+use mathlib.Core.Path.{_≡_, ap, _∙_}
+use mathlib.Core.Bool.{Bool, true, false, _&&_, and-true, and-false}
 use Prim.Native.Nat.{ℕ}
 use lib.Dec.{eqb, leb, ltb}
 use borrow.Author.Tests.{eqb-true, ltb-true, leb-true}
 use Rattle.setting.specs.Allowed.{lengthAllowed}
-use Rattle.part.proofs.Tests.{and-split, lengths-of}
-use Rattle.narrow.specs.Calls.{narrowReady}
-use Rattle.narrow.specs.Needed.{isResult, restReady, NarrowReady}
-
-drawn : (a r l h z : Bool) → ((a && ((r && l) && h)) && z) ≡ (r && ((a && (l && h)) && z))
-drawn a true l h z = refl
-drawn true false l h z = refl
-drawn false false l h z = refl
-
-and-true : (r : Bool) → (r && true) ≡ r
-and-true true = refl
-and-true false = refl
-
-and-false : (r : Bool) → (r && false) ≡ false
-and-false true = refl
-and-false false = refl
+use Rattle.element.specs.Size.{isResult}
+use Rattle.element.proofs.Tests.{both-yes}
+use Rattle.part.proofs.Lengths.{lengths-of}
+use Rattle.narrow.specs.Calls.{restReady, narrowReady}
+use Rattle.narrow.specs.Needed.{NarrowReady}
 
 module _ (z vl size shift zn zd : ℕ) where
-  ready-is : narrowReady z vl size shift zn zd ≡ (isResult size && restReady z vl size shift zn zd)
-  unfolding narrowReady restReady
-  ready-is = drawn (eqb z 8192 && lengthAllowed vl) (isResult size) (ltb 0 shift) (leb shift size) (ltb zn 32 && ltb zd 32)
-
   pub refused : restReady z vl size shift zn zd ≡ false → narrowReady z vl size shift zn zd ≡ false
-  refused e = ready-is ∙ ap (λ (b : Bool). isResult size && b) e ∙ and-false (isResult size)
+  unfolding narrowReady
+  refused e = ap (λ (b : Bool). isResult size && b) e ∙ and-false (isResult size)
 
   module _ (rest : restReady z vl size shift zn zd ≡ true) where
     pub by-size : narrowReady z vl size shift zn zd ≡ isResult size
-    by-size = ready-is ∙ ap (λ (b : Bool). isResult size && b) rest ∙ and-true (isResult size)
+    unfolding narrowReady
+    by-size = ap (λ (b : Bool). isResult size && b) rest ∙ and-true (isResult size)
 
     pub narrow-accepted : NarrowReady z vl size shift zn zd
-    unfolding restReady
     narrow-accepted =
-        let a = and-split ((eqb z 8192 && lengthAllowed vl) && (ltb 0 shift && leb shift size)) (ltb zn 32 && ltb zd 32) rest in
-        let b = and-split (eqb z 8192 && lengthAllowed vl) (ltb 0 shift && leb shift size) (a .0) in
-        let f = and-split (eqb z 8192) (lengthAllowed vl) (b .0) in
-        let n = and-split (ltb 0 shift) (leb shift size) (b .1) in
-        let r = and-split (ltb zn 32) (ltb zd 32) (a .1) in
+        let a = both-yes ((eqb z 8192 && lengthAllowed vl) && (ltb 0 shift && leb shift size)) (ltb zn 32 && ltb zd 32) rest in
+        let b = both-yes (eqb z 8192 && lengthAllowed vl) (ltb 0 shift && leb shift size) (a .0) in
+        let f = both-yes (eqb z 8192) (lengthAllowed vl) (b .0) in
+        let n = both-yes (ltb 0 shift) (leb shift size) (b .1) in
+        let r = both-yes (ltb zn 32) (ltb zd 32) (a .1) in
         record {
           slots = eqb-true z 8192 (f .0);
           lengths = lengths-of vl (f .1);

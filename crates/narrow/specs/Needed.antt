@@ -1,18 +1,7 @@
 -- Document 01, "UQRSHRNB": what the private functions ask of their callers.
 use mathlib.Core.Path.{_≡_}
-use mathlib.Core.Bool.{Bool, _&&_, _||_}
 use Prim.Native.Nat.{ℕ, _*_, _^_, _≤_, _<_}
-use lib.Dec.{eqb, leb, ltb}
-use Rattle.setting.specs.Allowed.{lengthAllowed}
 use Rattle.part.specs.Parts.{Width, Lengths}
-
--- the three sizes of a result, in bits
-abbrev pub isResult : ℕ → Bool
-isResult s = eqb s 8 || eqb s 16 || eqb s 32
-
--- what else `narrowReady` asks
-unfoldable pub restReady : ℕ → ℕ → ℕ → ℕ → ℕ → ℕ → Bool
-restReady z vl size shift zn zd = (eqb z 8192 && lengthAllowed vl) && (ltb 0 shift && leb shift size) && (ltb zn 32 && ltb zd 32)
 
 -- an element of w bytes
 pub record OneReady (x w shift : ℕ) : Type 0 where

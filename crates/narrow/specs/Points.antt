@@ -2,7 +2,6 @@
 use mathlib.Core.Path.{_≡_}
 use mathlib.Core.List.{List, [], _∷_}
 use Prim.Native.Nat.{_-_, _^_}
-use Rattle.element.specs.Every.{Every}
 use Rattle.narrow.specs.Narrow.{narrowed}
 
 abbrev pub vectorPoints : List (Type 0)

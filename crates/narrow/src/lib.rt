@@ -4,8 +4,7 @@ mod one;
 
 ghost use mathlib.Core.Path.{_≡_};
 ghost use lib.ListN.{length};
-ghost use Rattle.narrow.specs.Calls.{narrowReady, narrowFile};
-ghost use Rattle.narrow.specs.Needed.{restReady};
+ghost use Rattle.narrow.specs.Calls.{restReady, narrowReady, narrowFile};
 ghost use Rattle.element.specs.Every.{Every};
 ghost use Rattle.narrow.specs.Points.{vectorPoints};
 

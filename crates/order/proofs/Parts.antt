@@ -1,10 +1,10 @@
 -- Stores into one part of a list, and reads of another: what the slots of a file owe. `sets` drops what would fall behind the end, so no law asks that the stores fit.
 use mathlib.Core.Path.{_≡_, refl, sym, _∙_, ap}
-use mathlib.Core.List.{List, [], _∷_, _++_, append-assoc}
+use mathlib.Core.List.{List, [], _∷_}
 use Prim.Native.Nat.{ℕ, suc, _+_, _≤_, _<_}
 use native.Mathlib.Omega.{arith}
-use lib.ListN.{length, take, drop, set, length-append}
-use lib.Seq.{slice, sets, sets-eq, set-comm, take-set-le, take-set-lt, drop-set-lt, take-at, drop-at, length-take-le, take-all, drop-drop}
+use lib.ListN.{length, take, drop, set}
+use lib.Seq.{slice, sets, set-comm, take-set-le, take-set-lt, drop-set-lt}
 
 module _ {A : Type 0} where
   -- a store before the stores
@@ -27,18 +27,3 @@ module _ {A : Type 0} where
   slice-behind [] l i f t h k = refl
   slice-behind (v ∷ vs) l i f t h k =
       slice-behind vs (set l i v) (suc i) f t (omega arith) k ∙ ap (drop f) (take-set-lt t l i v (omega arith)) ∙ drop-set-lt f (take t l) i v (omega arith)
-
-  -- the part itself
-  pub slice-same : (vs l : List A) (i : ℕ) → i + length vs ≤ length l → slice i (i + length vs) (sets l i vs) ≡ vs
-  slice-same vs l i h =
-      ap (slice i (i + length vs)) (sets-eq vs l i h)
-      ∙ ap (drop i) (take-at (take i l ++ vs) (drop (i + length vs) l) (i + length vs) (length-append (take i l) vs ∙ ap (λ (k : ℕ). k + length vs) front))
-      ∙ drop-at (take i l) vs i front
-    where
-      front : length (take i l) ≡ i
-      front = length-take-le i l (omega arith)
-
-  -- a part of n elements from a on that was lent out and came back as c: how the borrow checker has it (`putMid`), and as stores
-  pub part-back : (a k n : ℕ) (l c : List A) → a + n ≤ length l → length c ≡ n → k ≡ n → take a l ++ (c ++ drop k (drop a l)) ≡ sets l a (take n c)
-  part-back a k n l c h e d =
-      rw (d, take-all n c (omega arith), sets-eq c l a (omega arith), append-assoc, e, drop-drop)

@@ -1,40 +1,19 @@
 -- The tests are the definitions, in both directions: a test over all positions is a fact of each, and an order as long as the stretch that lists each position has no room for another entry.
 use mathlib.Core.Path.{_≡_, refl, sym, _∙_, ap}
 use mathlib.Core.Bool.{Bool, true, false, false≢true, not, _||_}
-use mathlib.Core.Logic.{⊎-elim}
 use mathlib.Core.List.{List, [], _∷_}
-use Prim.Native.Nat.{ℕ, zero, suc, _≤_, _<_}
-use native.Mathlib.Nat.{eq-or-lt-of-le, le-of-suc-le-suc, not-suc-le-zero}
+use Prim.Native.Nat.{ℕ, _≤_, _<_}
 use native.Mathlib.Omega.{arith}
 use native.Mathlib.Decide.{decLt}
 use lib.Dec.{eqb}
 use lib.ListN.{length, getD}
 use borrow.Author.Tests.{eqb-true, eq-eqb, ltb-true, lt-ltb}
+use Rattle.element.proofs.Below.{each-holds, all-true}
 use Rattle.element.proofs.Tests.{both-yes}
 use Rattle.order.specs.Rearranged.{bump, count, place, Rearrangement, Permitted}
-use Rattle.order.specs.Tested.{allBelow, rearranges, permits}
+use Rattle.order.specs.Tested.{rearranges, permits}
 use Rattle.order.proofs.Counted.{count-same, remove, count-remove, length-remove}
 use Rattle.order.proofs.Positions.{upto, count-upto-in, count-upto-above, length-upto, length-order}
-
--- ---- a test of every number below n
-pub each-holds : (f : ℕ → Bool) (n : ℕ) → allBelow f n ≡ true → (i : ℕ) → i < n → f i ≡ true
-unfolding allBelow
-each-holds f zero h i l = absurd (not-suc-le-zero l)
-each-holds f (suc n) h i l =
-    let p = both-yes (allBelow f n) (f n) h in
-    ⊎-elim (λ (e : i ≡ n). rw e (p .1)) (λ (k : i < n). each-holds f n (p .0) i k) (eq-or-lt-of-le (le-of-suc-le-suc l))
-
-pub all-hold : (f : ℕ → Bool) (n : ℕ) → ((i : ℕ) → i < n → f i ≡ true) → allBelow f n ≡ true
-unfolding allBelow
-all-hold f zero g = refl
-all-hold f (suc n) g = rw (all-hold f n (λ i l. g i (omega arith))) (g n (omega arith))
-
-pub one-fails : (f : ℕ → Bool) (n i : ℕ) → i < n → f i ≡ false → allBelow f n ≡ false
-one-fails f n i l e = go (allBelow f n) refl
-  where
-    go : (b : Bool) → allBelow f n ≡ b → allBelow f n ≡ false
-    go true h = absurd (false≢true (sym e ∙ each-holds f n h i l))
-    go false h = h
 
 -- ---- rearrangements
 bump-le : (b : Bool) (m n : ℕ) → bump b m ≤ bump b n → m ≤ n
@@ -73,7 +52,7 @@ module _ (n : ℕ) (order : List ℕ) where
   pub rearranges-whole : Rearrangement n order → rearranges n order ≡ true
   unfolding rearranges
   rearranges-whole R =
-      rw (eq-eqb (length order) n (length-order n order R ∙ length-upto 0 n)) (all-hold _ n (λ i l. eq-eqb (count i order) 1 (R .once i l)))
+      rw (eq-eqb (length order) n (length-order n order R ∙ length-upto 0 n)) (all-true _ n (λ i l. eq-eqb (count i order) 1 (R .once i l)))
 
 -- ---- permission
 or-not : (c b : Bool) → not c || b ≡ true → c ≡ true → b ≡ true
@@ -94,5 +73,5 @@ module _ (conflict : ℕ → ℕ → Bool) (words order : List ℕ) where
   pub permits-whole : Permitted conflict words order → permits conflict words order ≡ true
   unfolding permits
   permits-whole P =
-      all-hold _ (length words)
-      (λ j k. all-hold _ j (λ i l. or-follows (conflict (getD words i 0) (getD words j 0)) _ (λ e. lt-ltb (place i order) (place j order) (P .first i j l k e))))
+      all-true _ (length words)
+      (λ j k. all-true _ j (λ i l. or-follows (conflict (getD words i 0) (getD words j 0)) _ (λ e. lt-ltb (place i order) (place j order) (P .first i j l k e))))

@@ -1,4 +1,4 @@
-// What the vector instructions share: an element's bytes as a number, low byte first, and back.
+// An element's bytes as a number, low byte first, and back: what the vector instructions share, and PEXT at VL 128.
 ghost use mathlib.Core.Path.{_≡_};
 ghost use Prim.Native.Nat.{_+_, _*_, _<_};
 ghost use lib.ListN.{length};

@@ -10,7 +10,7 @@ use lib.Pow.{high, low}
 use Rattle.element.specs.Contents.{bytes, elem, fill, gather, octet, row}
 use Rattle.element.specs.Units.{Log}
 use Rattle.element.specs.Slots.{setSlot}
-use Rattle.element.proofs.Filling.{digit-lt, gather-same, octet-lt}
+use Rattle.element.proofs.Filling.{gather-lt, gather-same, octet-lt}
 use Rattle.element.proofs.Units.{unit, low-bits}
 use Rattle.counter.specs.Portion.{portionOf}
 use Rattle.counter.specs.Strips.{stripBit}
@@ -20,11 +20,6 @@ use Rattle.predicate.specs.Pext.{pextSlots}
 use Rattle.predicate.proofs.Portions.{one-more}
 
 module _ (g : ℕ → Bool) where
-  gather-lt : (n i : ℕ) → gather g i n < 2 ^ n
-  unfolding gather
-  gather-lt zero i = omega arith
-  gather-lt (suc n) i = omega (arith, digit-lt (g i), gather-lt n (i + 1))
-
   -- m digits, and those behind them
   split : (m n i : ℕ) → gather g i (m + n) ≡ gather g (i + m) n * 2 ^ m + gather g i m
   unfolding gather
@@ -37,10 +32,10 @@ module _ (g : ℕ → Bool) where
       rw (z, h, e, a) (omega arith)
 
   behind : (m n i : ℕ) → gather g i (m + n) / 2 ^ m ≡ gather g (i + m) n
-  behind m n i = rw (split m n i) (high (gather g (i + m) n) m (gather-lt m i))
+  behind m n i = rw (split m n i) (high (gather g (i + m) n) m (gather-lt g m i))
 
   first : (m n i : ℕ) → gather g i (m + n) % 2 ^ m ≡ gather g i m
-  first m n i = rw (split m n i) (low (gather g (i + m) n) m (gather-lt m i))
+  first m n i = rw (split m n i) (low (gather g (i + m) n) m (gather-lt g m i))
 
   -- two bytes from bit 16p on
   two-bytes : (p : ℕ) → p < 4 → bytes 2 (gather g 0 64 / 2 ^ (16 * p)) ≡ octet g (2 * p) ∷ octet g (2 * p + 1) ∷ []
@@ -82,10 +77,6 @@ pair-is size p c s x l h e =
 pub stored-two : (o : List ℕ) (x : ℕ) → length o ≡ 2 → storedOf o x ≡ bytes 2 x
 unfolding storedOf
 stored-two o x e = rw e
-
-pub two-long : (x : ℕ) → length (bytes 2 x) ≡ 2
-unfolding bytes
-two-long x = refl
 
 -- one more portion, k being its register and m its number
 pub pair-more : (size first pd n s c x k m : ℕ) (cs f p q : List ℕ)

@@ -50,7 +50,7 @@ pub clash-is-conflict : (s : Setting) (v w : ℕ) → clashes (touchOf s v) (tou
 unfolding conflicting
 clash-is-conflict s v w = ap₂ (λ (x y : Bool). x || y) (one-way v w) (one-way w v)
   where
-    one-way : (v w : ℕ) → shares (touchOf s v .writes) (touchOf s w .all) ≡ meet sameRegister (writes s v) (reads s w ++ writes s w)
+    one-way : (v w : ℕ) → shares (touchOf s v .writes) (touchOf s w .touched) ≡ meet sameRegister (writes s v) (reads s w ++ writes s w)
     one-way v w =
         or-shares (bitsOf (writes s v)) (bitsOf (reads s w)) (bitsOf (writes s w))
         ∙ ap₂ (λ (x y : Bool). x || y) (bits-meet (writes s v) (reads s w) (known-word s v .1) (known-word s w .0)) (bits-meet (writes s v) (writes s w) (known-word s v .1) (known-word s w .1))

@@ -20,7 +20,7 @@ use Rattle.order.specs.Touch.{Registers, fromReads}
 use Rattle.order.specs.Steps.{Independent}
 use Rattle.order.proofs.Changes.{read-change}
 use Rattle.order.proofs.Touches.{independent}
-use Rattle.part.proofs.Tests.{lengths-of}
+use Rattle.part.proofs.Lengths.{lengths-of}
 use Rattle.machine.specs.Machine.{Machine, Flags, gap, width, files, get, put, next, flagsOf}
 use Rattle.machine.specs.Step.{sized, reads, writes, gives, verdict, refusalOf, execOf}
 use Rattle.machine.specs.declared.Scalars.{Scalars}

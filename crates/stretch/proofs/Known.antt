@@ -12,13 +12,15 @@ use borrow.Author.Tests.{eq-eqb, ne-eqb, leb-true}
 use Rattle.setting.specs.declared.Setting.{Setting}
 use Rattle.setting.specs.Numbers.{Outcome, accept, refuse}
 use Rattle.element.proofs.Below.{below}
+use Rattle.element.proofs.Tests.{both-yes}
 use Rattle.element.specs.Every.{all}
 use Rattle.order.specs.Banks.{Register, sameRegister}
 use Rattle.encoding.specs.Decode.{decodeOf}
 use Rattle.encoding.specs.Instructions.{inRange}
 use Rattle.encoding.specs.declared.Instruction.{Instruction}
 use Rattle.encoding.specs.declared.Instruction.the-variants.{Pext1, Pext2, Dup, Luti4c, Luti4s, Uqrshrnb}
-use Rattle.encoding.proofs.FieldLaws.{and-true, pext-ranges, dup-ranges, luti-ranges, strided-zd, narrow-ranges, known-range}
+use Rattle.encoding.proofs.FieldBits.{strided-zd}
+use Rattle.encoding.proofs.InRange.{pext-ranges, dup-ranges, luti-ranges, narrow-ranges, known-range}
 use Rattle.encoding.proofs.Round.{read-in-range}
 use Rattle.machine.specs.Touched.{readsOf, writesOf}
 use Rattle.machine.specs.Step.{reads, writes, overWord}
@@ -76,7 +78,7 @@ known-touch (Dup size offset index pg pn pd) e =
     let g = dup-ranges size offset index pg pn pd e in ((g .pg-lt, (g .pn-lt, (omega (arith, g .index-ge, g .index-lt), tt))), (g .pd-lt, tt))
 known-touch (Luti4c size i1 zn zd) e =
     let g = luti-ranges (eqb size 16 || eqb size 32) i1 zn (eqb (zd % 4) 0 && leb zd 28) e in
-    let most = leb-true zd 28 (and-true (eqb (zd % 4) 0) (leb zd 28) (g .3) .1) in
+    let most = leb-true zd 28 (both-yes (eqb (zd % 4) 0) (leb zd 28) (g .3) .1) in
     ((g .2, (omega arith, tt)), (omega arith, (omega arith, (omega arith, (omega arith, tt)))))
 known-touch (Luti4s size i1 zn zd) e =
     let g = luti-ranges (eqb size 16) i1 zn (ltb zd 4 || (leb 16 zd && ltb zd 20)) e in

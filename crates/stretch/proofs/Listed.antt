@@ -10,9 +10,11 @@ use lib.Dec.{ltb}
 use lib.ListN.{length}
 use borrow.Author.Tests.{ne-eqb, ltb-true, lt-ltb}
 use Rattle.order.specs.Rearranged.{count, place}
-use Rattle.order.specs.Tested.{allBelow, rearranges}
+use Rattle.element.specs.Every.{all}
+use Rattle.order.specs.Tested.{rearranges}
 use Rattle.order.proofs.Counted.{count-same, place-same, place-other, remove, count-remove, length-remove}
-use Rattle.order.proofs.Tested.{each-holds, all-hold, listed-once, rearranges-sound, rearranges-whole}
+use Rattle.element.proofs.Below.{each-holds, all-true}
+use Rattle.order.proofs.Tested.{listed-once, rearranges-sound, rearranges-whole}
 
 count-other : (i j : ℕ) (js : List ℕ) → (i ≡ j → ⊥) → count i (j ∷ js) ≡ count i js
 unfolding count
@@ -60,16 +62,16 @@ module _ (n : ℕ) (order : List ℕ) (e : length order ≡ n) where
       go (yes two) = absurd (omega (arith, length-remove i order (h i l), needs-room n (remove i order) (λ j m. stays j i order (h i l) (λ q. two) (h j m))))
       go (no one) = omega (arith, h i l)
 
-  pub listed-rearranges : allBelow (λ i. ltb (place i order) n) n ≡ rearranges n order
-  listed-rearranges = go (allBelow (λ i. ltb (place i order) n) n) (rearranges n order) refl refl
+  pub listed-rearranges : all (λ i. ltb (place i order) n) n ≡ rearranges n order
+  listed-rearranges = go (all (λ i. ltb (place i order) n) n) (rearranges n order) refl refl
     where
-      whole : allBelow (λ i. ltb (place i order) n) n ≡ true → rearranges n order ≡ true
+      whole : all (λ i. ltb (place i order) n) n ≡ true → rearranges n order ≡ true
       whole h = rearranges-whole n order (listed-once n order e (once (λ i l. placed-counted i order (rw e (ltb-true (place i order) n (each-holds _ n h i l))))))
 
-      sound : rearranges n order ≡ true → allBelow (λ i. ltb (place i order) n) n ≡ true
-      sound h = all-hold _ n (λ i l. lt-ltb (place i order) n (omega (arith, counted-placed i order (omega (arith, rearranges-sound n order h .once i l)))))
+      sound : rearranges n order ≡ true → all (λ i. ltb (place i order) n) n ≡ true
+      sound h = all-true _ n (λ i l. lt-ltb (place i order) n (omega (arith, counted-placed i order (omega (arith, rearranges-sound n order h .once i l)))))
 
-      go : (a b : Bool) → allBelow (λ i. ltb (place i order) n) n ≡ a → rearranges n order ≡ b → allBelow (λ i. ltb (place i order) n) n ≡ rearranges n order
+      go : (a b : Bool) → all (λ i. ltb (place i order) n) n ≡ a → rearranges n order ≡ b → all (λ i. ltb (place i order) n) n ≡ rearranges n order
       go true b p q = p ∙ sym (whole p)
       go false true p q = sound q ∙ sym q
       go false false p q = p ∙ sym q

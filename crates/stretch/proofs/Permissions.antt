@@ -11,7 +11,8 @@ use Rattle.setting.specs.Allowed.{allowedOf}
 use Rattle.setting.specs.Numbers.{accept}
 use Rattle.setting.specs.declared.Setting.{Setting}
 use Rattle.element.proofs.Tests.{both-yes}
-use Rattle.order.proofs.Tested.{each-holds, all-hold, rearranges-sound, rearranges-whole, permits-sound, permits-whole}
+use Rattle.element.proofs.Below.{each-holds, all-true}
+use Rattle.order.proofs.Tested.{rearranges-sound, rearranges-whole, permits-sound, permits-whole}
 use Rattle.stretch.specs.Conflict.{conflict, isRead}
 use Rattle.stretch.specs.Permission.{allRead, unanswered, permittedBy, unless, permittedOf, Permission}
 use Rattle.stretch.specs.Claims.{PermittedExactly}
@@ -43,7 +44,7 @@ module _ (s : Setting) (words order : List ℕ) where
   whole : Permission s words order → permittedOf s words order ≡ accept true
   unfolding permittedOf
   whole P =
-      rw (P .allowed, le-leb (length words) 256 (P .short), all-hold (λ i. isRead s (getD words i 0)) (length words) (P .read), rearranges-whole (length words) order (P .rearrangement))
+      rw (P .allowed, le-leb (length words) 256 (P .short), all-true (λ i. isRead s (getD words i 0)) (length words) (P .read), rearranges-whole (length words) order (P .rearrangement))
       (ap accept (permits-whole (conflict s) words order (P .permitted)))
 
 pub permitted-exactly : PermittedExactly

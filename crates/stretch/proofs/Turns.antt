@@ -7,14 +7,13 @@ use native.Mathlib.Omega.{arith}
 use lib.Dec.{ltb, leb}
 use borrow.Author.Tests.{leb-true, leb-false, le-ltb, lt-ltb}
 use Rattle.element.proofs.Tests.{both-yes}
-use Rattle.order.specs.Tested.{allBelow}
+use Rattle.element.specs.Every.{all}
 
 module _ (f : ℕ → Bool) where
-  pub all-more : (n : ℕ) → allBelow f n ≡ true → f n ≡ true → allBelow f (n + 1) ≡ true
-  unfolding allBelow
-  all-more n h e = rw (add-one n, h) e
+  pub all-more : (n : ℕ) → all f n ≡ true → f n ≡ true → all f (n + 1) ≡ true
+  all-more n h e = rw (add-one n, e) h
 
-  pub all-done : (i n : ℕ) → i ≤ n → n ≤ i → allBelow f i ≡ true → true ≡ allBelow f n
+  pub all-done : (i n : ℕ) → i ≤ n → n ≤ i → all f i ≡ true → true ≡ all f n
   all-done i n h l e = let q : n ≡ i = omega arith in rw q (sym e)
 
 -- ---- a pair of words

@@ -29,7 +29,7 @@ bitsOf [] = 0
 bitsOf (r ∷ rs) = bitOr (bitOf r) (bitsOf rs)
 
 abbrev pub joined : ℕ → ℕ → Touch
-joined reads writes = record { writes = writes; all = bitOr reads writes }
+joined reads writes = record { writes = writes; touched = bitOr reads writes }
 
 abbrev pub touchBy : List Register → List Register → Touch
 touchBy reads writes = joined (bitsOf reads) (bitsOf writes)
@@ -56,4 +56,4 @@ shares a b = not (eqb (bitAnd a b) 0)
 
 -- one writes a register that the other reads or writes
 abbrev pub clashes : Touch → Touch → Bool
-clashes v w = shares (v .writes) (w .all) || shares (w .writes) (v .all)
+clashes v w = shares (v .writes) (w .touched) || shares (w .writes) (v .touched)

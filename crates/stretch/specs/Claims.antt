@@ -1,4 +1,4 @@
--- Demand 3 of the brief, and what else `claims` promises of a run, of conflict and of permission.
+-- Document 01, "What a word touches", demand 3; and what else `claims` promises of a run, of conflict and of permission.
 use mathlib.Core.Path.{_≡_}
 use mathlib.Core.Bool.{true, false}
 use mathlib.Core.List.{List}

@@ -9,13 +9,14 @@ use Rattle.setting.specs.Allowed.{allowedOf}
 use Rattle.setting.specs.Numbers.{Outcome, accept, refuse}
 use Rattle.setting.specs.declared.Setting.{Setting}
 use Rattle.order.specs.Rearranged.{Rearrangement, Permitted}
-use Rattle.order.specs.Tested.{allBelow, rearranges, permits}
+use Rattle.element.specs.Every.{all}
+use Rattle.order.specs.Tested.{rearranges, permits}
 use Rattle.machine.specs.Step.{firstFailed, need}
 use Rattle.stretch.specs.Conflict.{conflict, isRead}
 
 -- every word of the stretch can be read
 abbrev pub allRead : Setting → List ℕ → Bool
-allRead s words = allBelow (λ i. isRead s (getD words i 0)) (length words)
+allRead s words = all (λ i. isRead s (getD words i 0)) (length words)
 
 -- the number that the question is refused with, or 0
 abbrev pub unanswered : Setting → List ℕ → ℕ

@@ -5,23 +5,23 @@ use mathlib.Core.List.{List}
 use Prim.Native.Nat.{ℕ, _≤_}
 use lib.Dec.{ltb}
 use lib.ListN.{getD}
-use Rattle.order.specs.Tested.{allBelow}
+use Rattle.element.specs.Every.{all}
 use Rattle.stretch.specs.Bits.{clashes}
 use Rattle.stretch.specs.declared.touch.Touch.{Touch}
 
 -- the tables have room for each word
-pub record Room (words writes all : ℕ) : Type 0 where
+pub record Room (words writes touched : ℕ) : Type 0 where
   pub few : words ≤ 256
   pub writes-long : writes ≡ 256
-  pub all-long : all ≡ 256
+  pub touched-long : touched ≡ 256
 
 abbrev pub touchAt : List ℕ → List ℕ → ℕ → Touch
-touchAt writes all i = record { writes = getD writes i 0; all = getD all i 0 }
+touchAt writes touched i = record { writes = getD writes i 0; touched = getD touched i 0 }
 
 -- the words at i and j do not clash, or i comes before j
 abbrev pub keepsAt : List ℕ → List ℕ → List ℕ → ℕ → ℕ → Bool
-keepsAt writes all place i j = not (clashes (touchAt writes all i) (touchAt writes all j)) || ltb (getD place i 0) (getD place j 0)
+keepsAt writes touched place i j = not (clashes (touchAt writes touched i) (touchAt writes touched j)) || ltb (getD place i 0) (getD place j 0)
 
 -- j is listed among n entries, and behind each earlier word that clashes
 abbrev pub standsAt : List ℕ → List ℕ → List ℕ → ℕ → ℕ → Bool
-standsAt writes all place n j = ltb (getD place j 0) n && allBelow (λ i. keepsAt writes all place i j) j
+standsAt writes touched place n j = ltb (getD place j 0) n && all (λ i. keepsAt writes touched place i j) j

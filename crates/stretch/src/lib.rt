@@ -48,8 +48,8 @@ pub fn permitted(setting: Setting, words: &[u32], order: &[u32]) -> Reply
         return Reply::Refused(Answer::TooManyWords);
     }
     let mut writes = [0u64; 256];
-    let mut all = [0u64; 256];
-    if !tables::touches(setting, words, &mut writes, &mut all) {
+    let mut touched = [0u64; 256];
+    if !tables::touches(setting, words, &mut writes, &mut touched) {
         return Reply::Refused(Answer::Undefined);
     }
     let n = words.len();
@@ -57,7 +57,7 @@ pub fn permitted(setting: Setting, words: &[u32], order: &[u32]) -> Reply
         return Reply::No;
     }
     let place = tables::places(order);
-    yes_or_no(tables::stands(&writes, &all, &place, n))
+    yes_or_no(tables::stands(&writes, &touched, &place, n))
 }
 
 // The theorems about these definitions. It does nothing: its promise has the check demand their proofs.

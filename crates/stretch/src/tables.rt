@@ -4,7 +4,7 @@ ghost use mathlib.Core.Bool.{true};
 ghost use Prim.Native.Nat.{ℕ, _≤_, _<_};
 ghost use lib.ListN.{length, getD};
 ghost use Rattle.order.specs.Rearranged.{place};
-ghost use Rattle.order.specs.Tested.{allBelow};
+ghost use Rattle.element.specs.Every.{all};
 ghost use Rattle.stretch.specs.Permission.{allRead};
 ghost use Rattle.stretch.specs.Bits.{touchOf};
 ghost use Rattle.stretch.specs.Tables.{Room, touchAt, keepsAt, standsAt};
@@ -18,11 +18,11 @@ pub(crate) fn touches(
     setting: Setting,
     words: &[u32],
     writes: &mut [u64; 256],
-    all: &mut [u64; 256],
+    touched: &mut [u64; 256],
 ) -> bool
-    requires { ⌜ Room (length (now words)) (length (now writes)) (length (now all)) ⌝ }
+    requires { ⌜ Room (length (now words)) (length (now writes)) (length (now touched)) ⌝ }
     ensures read { λ r. ⌜ r ≡ allRead setting (now (words .entry)) ⌝ }
-    ensures each { λ r. ⌜ (r ≡ true → (i : ℕ) → i < length (now (words .entry)) → touchAt (now (writes .exit)) (now (all .exit)) i ≡ touchOf setting (getD (now (words .entry)) i 0)) ⌝ }
+    ensures each { λ r. ⌜ (r ≡ true → (i : ℕ) → i < length (now (words .entry)) → touchAt (now (writes .exit)) (now (touched .exit)) i ≡ touchOf setting (getD (now (words .entry)) i 0)) ⌝ }
 {
     let mut i: usize = 0;
     while i < words.len() {
@@ -30,7 +30,7 @@ pub(crate) fn touches(
             return false;
         };
         writes[i] = t.writes;
-        all[i] = t.all;
+        touched[i] = t.touched;
         i += 1;
     }
     true
@@ -53,19 +53,19 @@ pub(crate) fn places(order: &[u32]) -> [usize; 256]
 }
 
 // Whether each earlier word that clashes with the word at j still comes before it.
-fn keeps(writes: &[u64; 256], all: &[u64; 256], place: &[usize; 256], j: usize) -> bool
+fn keeps(writes: &[u64; 256], touched: &[u64; 256], place: &[usize; 256], j: usize) -> bool
     requires { ⌜ j < 256 ⌝ }
-    ensures { λ r. ⌜ r ≡ allBelow (λ i. keepsAt (now (writes .entry)) (now (all .entry)) (now (place .entry)) i j) j ⌝ }
+    ensures { λ r. ⌜ r ≡ all (λ i. keepsAt (now (writes .entry)) (now (touched .entry)) (now (place .entry)) i j) j ⌝ }
 {
     let w = Touch {
         writes: writes[j],
-        all: all[j],
+        touched: touched[j],
     };
     let mut i: usize = 0;
     while i < j {
         let v = Touch {
             writes: writes[i],
-            all: all[i],
+            touched: touched[i],
         };
         if touch::clash(v, w) & (place[i] >= place[j]) {
             return false;
@@ -76,16 +76,21 @@ fn keeps(writes: &[u64; 256], all: &[u64; 256], place: &[usize; 256], j: usize) 
 }
 
 // Whether the order of n entries lists each of the n positions, and keeps each pair that clashes.
-pub(crate) fn stands(writes: &[u64; 256], all: &[u64; 256], place: &[usize; 256], n: usize) -> bool
+pub(crate) fn stands(
+    writes: &[u64; 256],
+    touched: &[u64; 256],
+    place: &[usize; 256],
+    n: usize,
+) -> bool
     requires { ⌜ n ≤ 256 ⌝ }
-    ensures { λ r. ⌜ r ≡ allBelow (standsAt (now (writes .entry)) (now (all .entry)) (now (place .entry)) n) n ⌝ }
+    ensures { λ r. ⌜ r ≡ all (standsAt (now (writes .entry)) (now (touched .entry)) (now (place .entry)) n) n ⌝ }
 {
     let mut j: usize = 0;
     while j < n {
         if place[j] >= n {
             return false;
         }
-        if !keeps(writes, all, place, j) {
+        if !keeps(writes, touched, place, j) {
             return false;
         }
         j += 1;

@@ -15,7 +15,7 @@ use setting::Setting;
 // The registers that a word writes, and all that it reads or writes.
 pub(crate) struct Touch {
     pub(crate) writes: u64,
-    pub(crate) all: u64,
+    pub(crate) touched: u64,
 }
 
 pub(crate) enum Reading {
@@ -67,7 +67,7 @@ fn join(reads: u64, writes: u64) -> Touch
 {
     Touch {
         writes,
-        all: reads | writes,
+        touched: reads | writes,
     }
 }
 
@@ -112,5 +112,5 @@ pub(crate) fn read(setting: Setting, word: u32) -> Reading
 pub(crate) fn clash(v: Touch, w: Touch) -> bool
     ensures { λ r. ⌜ r ≡ clashes v w ⌝ }
 {
-    (v.writes & w.all != 0) | (w.writes & v.all != 0)
+    (v.writes & w.touched != 0) | (w.writes & v.touched != 0)
 }

@@ -20,6 +20,27 @@ pub(crate) enum Task {
     Run,
 }
 
+// What is asked: the setting, the sixteen numbers in the order above, and the task of the machine made from them.
+pub(crate) struct Asked {
+    pub(crate) setting: Setting,
+    pub(crate) start: [u32; 16],
+    pub(crate) task: Task,
+}
+
+// The sixteen numbers from a place of a question on, which was read as nine numbers and then eleven.
+pub(crate) fn start_at(place: usize, first: &[u32; 9], rest: &[u32; 11]) -> [u32; 16]
+    requires { ⌜ place ≤ 4 ⌝ }
+{
+    let mut start = [0u32; 16];
+    let mut i: usize = 0;
+    while i < 16 {
+        let at = place + i;
+        start[i] = if at < 9 { first[at] } else { rest[at - 9] };
+        i += 1;
+    }
+    start
+}
+
 // What the files are made from.
 struct Contents {
     seed: u64,
@@ -105,17 +126,12 @@ fn told(left: Ran, z: u64, p: u64, zt: u64) -> [u32; 15] {
 }
 
 // The machine is made, and the task done. A step's count of words done is not told, and is 0 here.
-fn moved(
-    z: &mut [u8],
-    p: &mut [u8],
-    zt: &mut [u8],
-    setting: Setting,
-    start: &[u32; 16],
-    task: Task,
-    words: &[u32],
-) -> Ran {
-    make(z, p, zt, contents_of(start));
-    let scalars = scalars_of(start);
+fn moved(z: &mut [u8], p: &mut [u8], zt: &mut [u8], asked: Asked, words: &[u32]) -> Ran {
+    let start = asked.start;
+    let setting = asked.setting;
+    let task = asked.task;
+    make(z, p, zt, contents_of(&start));
+    let scalars = scalars_of(&start);
     match task {
         Task::Step(word) => {
             let left = console::step_through(z, p, zt, scalars, setting, word);
@@ -131,47 +147,24 @@ fn moved(
     }
 }
 
-fn line(
-    z: &mut [u8],
-    p: &mut [u8],
-    zt: &mut [u8],
-    setting: Setting,
-    start: &[u32; 16],
-    task: Task,
-    words: &[u32],
-) -> [u32; 15] {
-    let left = moved(z, p, zt, setting, start, task, words);
+fn line(z: &mut [u8], p: &mut [u8], zt: &mut [u8], asked: Asked, words: &[u32]) -> [u32; 15] {
+    let left = moved(z, p, zt, asked, words);
     told(left, hash(z), hash(p), hash(zt))
 }
 
 // The same on as much of each buffer as the question has of the file.
-fn at_lengths(
-    z: &mut [u8],
-    p: &mut [u8],
-    zt: &mut [u8],
-    setting: Setting,
-    start: &[u32; 16],
-    task: Task,
-    words: &[u32],
-) -> [u32; 15] {
+fn at_lengths(z: &mut [u8], p: &mut [u8], zt: &mut [u8], asked: Asked, words: &[u32]) -> [u32; 15] {
+    let start = asked.start;
     let zn = least(start[9], z.len());
     let pn = least(start[10], p.len());
     let tn = least(start[11], zt.len());
-    line(
-        &mut z[..zn],
-        &mut p[..pn],
-        &mut zt[..tn],
-        setting,
-        start,
-        task,
-        words,
-    )
+    line(&mut z[..zn], &mut p[..pn], &mut zt[..tn], asked, words)
 }
 
 // What is told after the task, done on buffers that are longer than any file that is asked about.
-pub(crate) fn answer(setting: Setting, start: &[u32; 16], task: Task, words: &[u32]) -> [u32; 15] {
+pub(crate) fn answer(asked: Asked, words: &[u32]) -> [u32; 15] {
     let mut z = [0u8; 16640];
     let mut p = [0u8; 8320];
     let mut zt = [0u8; 8320];
-    at_lengths(&mut z, &mut p, &mut zt, setting, start, task, words)
+    at_lengths(&mut z, &mut p, &mut zt, asked, words)
 }

@@ -3,6 +3,7 @@
 // A question: kind, VL, features; the sixteen numbers that the machine is made from (`machines`); how many words, and
 // the words, the first first. An answer: what `machines` tells.
 use crate::machines;
+use crate::machines::Asked;
 use crate::machines::Task;
 use crate::numbers;
 use setting::Setting;
@@ -14,29 +15,11 @@ pub(crate) fn answer(setting: Setting, first: &[u32; 9]) -> bool {
     if !numbers::read(&mut rest, 11) || !numbers::read(&mut words, rest[10]) {
         return false;
     }
-    let start = [
-        first[3],
-        first[4],
-        first[5],
-        first[6],
-        first[7],
-        first[8],
-        rest[0],
-        rest[1],
-        rest[2],
-        rest[3],
-        rest[4],
-        rest[5],
-        rest[6],
-        rest[7],
-        rest[8],
-        rest[9],
-    ];
-    let line = machines::answer(
+    let asked = Asked {
         setting,
-        &start,
-        Task::Run,
-        numbers::prefix(&words, rest[10]),
-    );
+        start: machines::start_at(3, first, &rest),
+        task: Task::Run,
+    };
+    let line = machines::answer(asked, numbers::prefix(&words, rest[10]));
     numbers::write(&line)
 }

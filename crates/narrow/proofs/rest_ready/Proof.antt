@@ -1,5 +1,4 @@
 -- `rest_ready` meets its contract: its tests are the definition's.
-use Rattle.narrow.specs.Needed.{restReady}
 use borrow.Author.Needs.{needs}
 use Rattle.narrow.proofs.rest_ready.Statement.{statement}
 use Rattle.narrow.proofs.rest_ready.Tie as tie
@@ -8,7 +7,6 @@ length-allowed-requires : tie.Need-length-allowed-requires
 length-allowed-requires c κs = search needs
 
 returns : tie.Need-returns
-unfolding restReady
 returns c = rw (c .length-allowed .ensures)
 
 pub rest-ready-spec : {M : Type 1} → statement M

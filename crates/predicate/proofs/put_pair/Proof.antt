@@ -3,8 +3,9 @@ use mathlib.Core.Path.{_∙_}
 use Prim.Native.Nat.{_*_, _/_, _^_}
 use native.Mathlib.Omega.{arith}
 use Rattle.element.specs.Contents.{bytes}
+use Rattle.element.proofs.Filling.{bytes-length}
 use Rattle.element.proofs.Slots.{part-length, put-back}
-use Rattle.predicate.proofs.Pairs.{stored-two, two-long}
+use Rattle.predicate.proofs.Pairs.{stored-two}
 use borrow.Author.Needs.{needs}
 use Rattle.predicate.proofs.put_pair.Statement.{statement}
 use Rattle.predicate.proofs.put_pair.Tie as tie
@@ -42,7 +43,7 @@ same-length c = search needs
 returns : tie.Need-returns
 returns c = let a = c .before .before .before .before .before .args in
     let y = a .x / 2 ^ (16 * a .portion) in
-    put-back 32 2 (a .pd) (a .p .now) _ (bytes 2 y) (omega arith) (two-long y) (c .before .before .write .ensures ∙ stored-two _ y (part-length 32 2 (a .pd) (a .p .now) (omega arith)))
+    put-back 32 2 (a .pd) (a .p .now) _ (bytes 2 y) (omega arith) (bytes-length 2 y) (c .before .before .write .ensures ∙ stored-two _ y (part-length 32 2 (a .pd) (a .p .now) (omega arith)))
 
 pub put-pair-spec : {M : Type 1} → statement M
 put-pair-spec =

@@ -2,7 +2,7 @@
 use Prim.Native.Nat.{_+_, _*_, _/_, _%_, _<_}
 use native.Mathlib.Nat.{div-one}
 use native.Mathlib.Omega.{arith}
-use Rattle.encoding.proofs.FieldLaws.{dup-divisor}
+use Rattle.encoding.proofs.FieldBits.{dup-divisor}
 use borrow.Author.Needs.{needs}
 use Rattle.decoder.proofs.fields.dup.Statement.{statement}
 use Rattle.decoder.proofs.fields.dup.Tie as tie

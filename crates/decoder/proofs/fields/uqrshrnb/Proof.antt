@@ -2,7 +2,7 @@
 use Prim.Native.Nat.{_/_, _%_, _<_}
 use native.Mathlib.Nat.{div-one}
 use native.Mathlib.Omega.{arith}
-use Rattle.encoding.proofs.FieldLaws.{narrow-size-le, shift-bits-le}
+use Rattle.encoding.proofs.FieldBits.{narrow-size-le, shift-bits-le}
 use borrow.Author.Needs.{needs}
 use Rattle.decoder.proofs.fields.uqrshrnb.Statement.{statement}
 use Rattle.decoder.proofs.fields.uqrshrnb.Tie as tie

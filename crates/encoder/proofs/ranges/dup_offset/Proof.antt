@@ -1,6 +1,6 @@
 -- `dup_offset` meets its contract: what passes the test of the size is not 0.
 use Rattle.element.proofs.Tests.{said-no, said-yes}
-use Rattle.encoding.proofs.FieldLaws.{some-size}
+use Rattle.encoding.proofs.FieldBits.{some-size}
 use borrow.Author.Needs.{needs}
 use Rattle.encoder.proofs.ranges.dup_offset.Statement.{statement}
 use Rattle.encoder.proofs.ranges.dup_offset.Tie as tie

@@ -6,10 +6,9 @@ use native.Mathlib.Nat.{div-le-self}
 use native.Mathlib.Omega.{arith}
 use lib.ListN.{length, take}
 use Rattle.element.specs.Slots.{slot}
-use Rattle.element.proofs.Slots.{slot-length, loaded}
+use Rattle.element.proofs.Slots.{slot-length, loaded, part-length}
 use Rattle.lookup.specs.Lookup.{lutiFile}
 use Rattle.lookup.proofs.Places.{size-bounds, element-of, Turn, turn-at}
-use Rattle.part.proofs.Slots.{part-len}
 use Rattle.lookup.proofs.Files.{room-is, turned}
 use Rattle.lookup.proofs.table.luti4_file.Statement.{statement}
 use Rattle.lookup.proofs.table.luti4_file.Tie as tie
@@ -109,7 +108,7 @@ look-requires c κs =
       width = element-of (a .pre .result);
       inside = rw n (t .inside);
       most = rw n (omega arith);
-      whole = part-len 256 (a .args .vl / 8) (a .args .first + a .args .stride * l .r) (l .z) (omega arith) ∙ sym (room-is (a .pre));
+      whole = part-length 256 (a .args .vl / 8) (a .args .first + a .args .stride * l .r) (l .z) (omega arith) ∙ sym (room-is (a .pre));
     }
 
 add-r : tie.Need-add-r Inv-loop μ-loop

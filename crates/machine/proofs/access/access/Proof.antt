@@ -1,5 +1,5 @@
 -- `access` meets its contract: in each arm the instruction is known; LUTI4's positions are inside, so 7 is not answered.
-use Rattle.encoding.proofs.FieldLaws.{known-range}
+use Rattle.encoding.proofs.InRange.{known-range}
 use Rattle.machine.proofs.Inside.{luti4c-inside, luti4s-inside}
 use borrow.Author.Needs.{needs}
 use Rattle.machine.proofs.access.access.Statement.{statement}

@@ -3,8 +3,8 @@ use mathlib.Core.Path.{_≡_, refl, sym}
 use mathlib.Core.Bool.{true}
 use Prim.Native.Nat.{ℕ, _-_, _≤_}
 use native.Mathlib.Omega.{arith}
-use Rattle.order.specs.Tested.{allBelow}
-use Rattle.order.proofs.Tested.{one-fails}
+use Rattle.element.specs.Every.{all}
+use Rattle.element.proofs.Below.{one-fails}
 use Rattle.stretch.specs.Tables.{keepsAt}
 use Rattle.stretch.proofs.Turns.{all-more, all-done}
 use Rattle.stretch.proofs.Tabled.{pair-fails, pair-holds}
@@ -12,10 +12,10 @@ use Rattle.stretch.proofs.tables.keeps.Statement.{statement}
 use Rattle.stretch.proofs.tables.keeps.Tie as tie
 
 abbrev Inv-loop : tie.InvT-loop
-Inv-loop writes all place j w i₀ i = (i ≤ j) × (allBelow (λ (k : ℕ). keepsAt writes all place k j) i ≡ true)
+Inv-loop writes touched place j w i₀ i = (i ≤ j) × (all (λ (k : ℕ). keepsAt writes touched place k j) i ≡ true)
 
 abbrev μ-loop : tie.MeasureT-loop
-μ-loop writes all place j w i₀ i = j - i
+μ-loop writes touched place j w i₀ i = j - i
 
 mul-t8 : tie.Need-mul-t8 Inv-loop μ-loop
 mul-t8 c = omega arith
@@ -30,7 +30,6 @@ element-copy-out-t15 : tie.Need-element-copy-out-t15 Inv-loop μ-loop
 element-copy-out-t15 c = omega arith
 
 loop-holds : tie.Need-loop-holds Inv-loop μ-loop
-unfolding allBelow
 loop-holds c = (omega arith, refl)
 
 mul-t17 : tie.Need-mul-t17 Inv-loop μ-loop
@@ -64,7 +63,7 @@ returns : tie.Need-returns Inv-loop μ-loop
 returns c =
     let a = c .before .before .before .before .before .before .before .before .before .before .args in
     let i = c .before .before .before .before .before .before .before .loop .i in
-    sym (one-fails (λ (k : ℕ). keepsAt (a .writes .now) (a .all .now) (a .place .now) k (a .j)) (a .j) i (omega arith) (pair-fails (a .writes .now) (a .all .now) (a .place .now) i (a .j) (c .before .before .before .clash .ensures) (c .if1 .taken)))
+    sym (one-fails (λ (k : ℕ). keepsAt (a .writes .now) (a .touched .now) (a .place .now) k (a .j)) (a .j) i (omega arith) (pair-fails (a .writes .now) (a .touched .now) (a .place .now) i (a .j) (c .before .before .before .clash .ensures) (c .if1 .taken)))
 
 add-i : tie.Need-add-i Inv-loop μ-loop
 add-i c = omega arith
@@ -76,13 +75,13 @@ loop-again : tie.Need-loop-again Inv-loop μ-loop
 loop-again c =
     let a = c .before .before .before .before .before .before .before .before .before .before .args in
     let l = c .before .before .before .before .before .before .before .loop in
-    (omega arith, all-more (λ (k : ℕ). keepsAt (a .writes .now) (a .all .now) (a .place .now) k (a .j)) (l .i) (l .inv .1) (pair-holds (a .writes .now) (a .all .now) (a .place .now) (l .i) (a .j) (c .before .before .before .clash .ensures) (c .if1 .left)))
+    (omega arith, all-more (λ (k : ℕ). keepsAt (a .writes .now) (a .touched .now) (a .place .now) k (a .j)) (l .i) (l .inv .1) (pair-holds (a .writes .now) (a .touched .now) (a .place .now) (l .i) (a .j) (c .before .before .before .clash .ensures) (c .if1 .left)))
 
 returns-2 : tie.Need-returns-2 Inv-loop μ-loop
 returns-2 c =
     let a = c .before .before .before .before .args in
     let l = c .before .loop in
-    all-done (λ (k : ℕ). keepsAt (a .writes .now) (a .all .now) (a .place .now) k (a .j)) (l .i) (a .j) (l .inv .0) (c .loop-test .left) (l .inv .1)
+    all-done (λ (k : ℕ). keepsAt (a .writes .now) (a .touched .now) (a .place .now) k (a .j)) (l .i) (a .j) (l .inv .0) (c .loop-test .left) (l .inv .1)
 
 pub keeps-spec : {M : Type 1} → statement M
 keeps-spec =

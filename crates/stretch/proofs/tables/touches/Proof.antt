@@ -5,7 +5,7 @@ use Prim.Native.Nat.{ℕ, _-_}
 use native.Mathlib.Omega.{arith}
 use borrow.Author.Needs.{needs}
 use lib.ListN.{length, getD}
-use Rattle.order.proofs.Tested.{one-fails}
+use Rattle.element.proofs.Below.{one-fails}
 use Rattle.stretch.specs.Conflict.{isRead}
 use Rattle.stretch.proofs.Turns.{all-done}
 use Rattle.stretch.proofs.Readings.{touch-is, is-read, is-unread}
@@ -14,13 +14,13 @@ use Rattle.stretch.proofs.tables.touches.Statement.{statement}
 use Rattle.stretch.proofs.tables.touches.Tie as tie
 
 abbrev Inv-loop : tie.InvT-loop
-Inv-loop setting words writes₀ all₀ i₀ writes all i = Told setting words i writes all
+Inv-loop setting words writes₀ touched₀ i₀ writes touched i = Told setting words i writes touched
 
 abbrev μ-loop : tie.MeasureT-loop
-μ-loop setting words writes₀ all₀ i₀ writes all i = length words - i
+μ-loop setting words writes₀ touched₀ i₀ writes touched i = length words - i
 
 loop-holds : tie.Need-loop-holds Inv-loop μ-loop
-loop-holds c = told-none (c .before .args .setting) (c .before .args .words .now) (c .before .args .writes .now) (c .before .args .all .now) (c .before .pre .writes-long) (c .before .pre .all-long)
+loop-holds c = told-none (c .before .args .setting) (c .before .args .words .now) (c .before .args .writes .now) (c .before .args .touched .now) (c .before .pre .writes-long) (c .before .pre .touched-long)
 
 mul-read : tie.Need-mul-read Inv-loop μ-loop
 mul-read c = omega arith
@@ -51,11 +51,11 @@ mul-writes c = omega arith
 element-write-writes : tie.Need-element-write-writes Inv-loop μ-loop
 element-write-writes c = omega arith
 
-mul-all : tie.Need-mul-all Inv-loop μ-loop
-mul-all c = omega arith
+mul-touched : tie.Need-mul-touched Inv-loop μ-loop
+mul-touched c = omega arith
 
-element-write-all : tie.Need-element-write-all Inv-loop μ-loop
-element-write-all c = omega arith
+element-write-touched : tie.Need-element-write-touched Inv-loop μ-loop
+element-write-touched c = omega arith
 
 add-i : tie.Need-add-i Inv-loop μ-loop
 add-i c = omega arith
@@ -70,7 +70,7 @@ loop-again c =
     let w = getD (a .words .now) (l .loop .i) 0 in
     let r = c .before .before .before .read .ensures in
     let t = c .before .t .given .1 in
-    told-more (a .setting) (a .words .now) (l .loop .i) (l .loop .writes) (l .loop .all) (c .before .t .given .0 .0) (omega arith) (l .before .before .pre .few) (l .loop .inv) (is-read (a .setting) w r t) (touch-is (a .setting) w r t)
+    told-more (a .setting) (a .words .now) (l .loop .i) (l .loop .writes) (l .loop .touched) (c .before .t .given .0 .0) (omega arith) (l .before .before .pre .few) (l .loop .inv) (is-read (a .setting) w r t) (touch-is (a .setting) w r t)
 
 returns-2 : tie.Need-returns-2 Inv-loop μ-loop
 returns-2 c =
@@ -95,8 +95,8 @@ touches-spec =
     returns
     mul-writes
     element-write-writes
-    mul-all
-    element-write-all
+    mul-touched
+    element-write-touched
     add-i
     loop-less
     loop-again

@@ -1,6 +1,6 @@
 -- `touch_of` meets its contract: in each arm the instruction is known, its fields are in range, and the bits are those of its row.
 use native.Mathlib.Omega.{arith}
-use Rattle.encoding.proofs.FieldLaws.{dup-ranges, known-range}
+use Rattle.encoding.proofs.InRange.{dup-ranges, known-range}
 use Rattle.stretch.proofs.Known.{known-as}
 use Rattle.stretch.proofs.Rows.{last-bit, next-bit, table-bit, row-is}
 use borrow.Author.Needs.{needs}

@@ -5,20 +5,20 @@ use borrow.Author.Needs.{needs}
 use Rattle.vectors.proofs.machines.at_lengths.Statement.{statement}
 use Rattle.vectors.proofs.machines.at_lengths.Tie as tie
 
-element-copy-out-least : tie.Need-element-copy-out-least
-element-copy-out-least c = search needs
+array-read-least : tie.Need-array-read-least
+array-read-least c = search needs
 
 least-requires : tie.Need-least-requires
 least-requires c κs = search needs
 
-element-copy-out-least-2 : tie.Need-element-copy-out-least-2
-element-copy-out-least-2 c = search needs
+array-read-least-2 : tie.Need-array-read-least-2
+array-read-least-2 c = search needs
 
 least-requires-2 : tie.Need-least-requires-2
 least-requires-2 c κs = search needs
 
-element-copy-out-least-3 : tie.Need-element-copy-out-least-3
-element-copy-out-least-3 c = search needs
+array-read-least-3 : tie.Need-array-read-least-3
+array-read-least-3 c = search needs
 
 least-requires-3 : tie.Need-least-requires-3
 least-requires-3 c κs = search needs
@@ -60,11 +60,11 @@ pub at-lengths-spec : {M : Type 1} → statement M
 at-lengths-spec =
     tie.close
     (tie.spec
-    element-copy-out-least
+    array-read-least
     least-requires
-    element-copy-out-least-2
+    array-read-least-2
     least-requires-2
-    element-copy-out-least-3
+    array-read-least-3
     least-requires-3
     slice-relend-prefix-line
     slice-aggregate-line
