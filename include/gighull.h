@@ -7,8 +7,7 @@
  *
  * What a caller must guarantee, since no call can test it: a pointer is aligned for its type and points to as many
  * elements as its length says (to one, where there is no length), all set, which nobody else writes until the call
- * returns; what is lent for writing (a pointer that is not const) overlaps no other argument; a `bool` of the record is
- * true or false. Nothing is asked of the numbers and lengths: each combination of them has an answer.
+ * returns; what is lent for writing (a pointer that is not const) overlaps no other argument; a `bool` is true or false. Nothing is asked of the numbers and lengths: each combination of them has an answer.
  */
 #ifndef GIGHULL_H
 #define GIGHULL_H
@@ -41,10 +40,19 @@ uint32_t gighull_step(uint8_t *z, size_t z_len, uint8_t *p, size_t p_len, uint8_
 /* A stretch of words on the lent machine, stepped one after the other up to the first that is refused. Answers 0; or 1,
  * 2 or 8 (more than 256 words), before any word; or 3 to 7, for the word that was refused. `*done` is set to how many
  * words were done: all where the answer is 0, none where it is 1, 2 or 8, else as many as stand before the refused one.
- * What those words did to the files and the record stays, and nothing else has changed. */
-uint32_t gighull_run(uint8_t *z, size_t z_len, uint8_t *p, size_t p_len, uint8_t *zt, size_t zt_len,
-                     struct gighull_scalars *scalars, uint32_t vl, uint32_t features, const uint32_t *words,
-                     size_t words_len, size_t *done);
+ * What those words did to the files stays, `*pc` has moved by 4 for each of them, and nothing else has changed: of the
+ * scalars a run moves PC alone, so the others are passed as numbers. */
+uint32_t gighull_run(uint8_t *z, size_t z_len, uint8_t *p, size_t p_len, uint8_t *zt, size_t zt_len, uint32_t w12,
+                     uint32_t w13, uint32_t w14, uint32_t w15, uint64_t *pc, bool v, bool s, bool t, uint32_t vl,
+                     uint32_t features, const uint32_t *words, size_t words_len, size_t *done);
+
+/* The same for whoever has a record, as for a step. */
+static inline uint32_t gighull_run_lent(uint8_t *z, size_t z_len, uint8_t *p, size_t p_len, uint8_t *zt, size_t zt_len,
+                                        struct gighull_scalars *scalars, uint32_t vl, uint32_t features,
+                                        const uint32_t *words, size_t words_len, size_t *done) {
+    return gighull_run(z, z_len, p, p_len, zt, zt_len, scalars->w12, scalars->w13, scalars->w14, scalars->w15,
+                       &scalars->pc, scalars->v, scalars->s, scalars->t, vl, features, words, words_len, done);
+}
 
 /* Whether two words conflict: one of them writes a register that the other reads or writes. Answers 0, 1 or 3 (of the
  * first word before the second). `*conflict` is set to 1 for yes, and to 0 for no and where the answer is not 0. */

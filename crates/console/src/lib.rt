@@ -5,9 +5,7 @@ ghost use lib.Dec.{eqb, ltb};
 ghost use Rattle.setting.specs.Allowed.{lengthAllowed};
 ghost use Rattle.setting.specs.Numbers.{numberOf};
 ghost use Rattle.machine.specs.Machine.{machine};
-ghost use Rattle.machine.specs.Step.{stepOf, steppedAs};
-ghost use Rattle.machine.specs.Run.{runOf};
-ghost use Rattle.console.specs.Lent.{stepAs, runAs};
+ghost use Rattle.machine.specs.Step.{stepOf, stepAs, steppedAs};
 ghost use Rattle.console.specs.Parts.{vectorOf, predicateOf};
 use machine::Scalars;
 use machine::Stepped;
@@ -78,22 +76,4 @@ pub fn step_through(
         answer,
         scalars: record,
     }
-}
-
-// A stretch of words. The record is lent, and advanced where it stands; how many words were done is left beside it.
-pub fn run_lent(
-    z: &mut [u8],
-    p: &mut [u8],
-    zt: &mut [u8],
-    scalars: &mut Scalars,
-    setting: Setting,
-    words: &[u32],
-    done: &mut usize,
-) -> Answer
-    ensures { λ r. ⌜ runAs (numberOf r) (now (done .exit)) (now (z .exit)) (now (p .exit)) (now (zt .exit)) (now (scalars .exit)) ≡ runOf setting (now (words .entry)) (machine (now (z .entry)) (now (p .entry)) (now (zt .entry)) (now (scalars .entry))) ⌝ }
-{
-    let r = machine::run(z, p, zt, *scalars, setting, words);
-    *scalars = r.scalars;
-    *done = r.done;
-    r.answer
 }

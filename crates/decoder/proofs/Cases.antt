@@ -98,6 +98,13 @@ unfolding placeFirst
 place-of-first f w = simp place-pick (sym (places (rowMatches pext1 f w) (rowMatches pext2 f w) (rowMatches dup f w) (rowMatches luti4c f w) (rowMatches luti4s f w) (rowMatches uqrshrnb f w)))
 
 -- ---- decode
+module _ (f w k : ℕ) (e : k ≡ placeFirst rows f w) where
+  pub read-row : readAt rows k w ≡ firstOf rows f w
+  read-row = ap (λ (j : ℕ). readAt rows j w) e ∙ sym (first-is-read rows f w)
+
+  pub read-no-row : 6 ≤ k → refuse 3 ≡ firstOf rows f w
+  read-no-row h = sym (read-past rows k w h) ∙ read-row
+
 module _ (s : Setting) (w : ℕ) where
   pub decode-not-allowed : allowedOf s ≡ false → refuse 1 ≡ decodeOf s w
   unfolding decodeOf
@@ -106,10 +113,11 @@ module _ (s : Setting) (w : ℕ) where
   module _ (a : allowedOf s ≡ true) (k : ℕ) (e : k ≡ placeFirst rows (s .features) w) where
     pub decode-row : readAt rows k w ≡ decodeOf s w
     unfolding decodeOf
-    decode-row = simp a (ap (λ (j : ℕ). readAt rows j w) e ∙ sym (first-is-read rows (s .features) w))
+    decode-row = simp a (read-row (s .features) w k e)
 
     pub decode-no-row : 6 ≤ k → refuse 3 ≡ decodeOf s w
-    decode-no-row h = sym (read-past rows k w h) ∙ decode-row
+    unfolding decodeOf
+    decode-no-row h = simp a (read-no-row (s .features) w k e h)
 
     pub form-place : k ≡ placeIn (decodeOf s w)
     unfolding decodeOf

@@ -1,4 +1,4 @@
--- Demands 1 and 2 of the brief, as far as they are about encodings: what `claims` promises of the definitions.
+-- What `claims` promises of the definitions: a word is undefined exactly when no row matches it, and decoding and encoding undo each other wherever neither is refused.
 use mathlib.Core.Path.{_≡_}
 use mathlib.Core.Bool.{Bool, true, false}
 use mathlib.Core.List.{List, [], _∷_}

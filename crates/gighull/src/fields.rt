@@ -1,6 +1,8 @@
 // An instruction as seven numbers, and back.
 ghost use mathlib.Core.Path.{_≡_};
 ghost use Rattle.setting.specs.Numbers.{accept};
+ghost use Rattle.element.specs.Size.{pick};
+ghost use Rattle.encoding.specs.declared.Instruction.the-variants.{Luti4c, Luti4s};
 ghost use Rattle.encoding.specs.Decode.{decodedAs};
 ghost use Rattle.gighull.specs.Fields.{numbersOf, readInto, instructionAt, instructionOf};
 use encoding::Decoded;
@@ -59,6 +61,15 @@ pub(crate) fn put(instruction: Instruction, out: &mut [u32])
     out[6] = n[6];
 }
 
+fn luti4(strided: bool, size: u32, i1: u32, zn: u32, zd: u32) -> Decoded
+    ensures { λ r. ⌜ decodedAs r ≡ accept (pick strided (Luti4s size i1 zn zd) (Luti4c size i1 zn zd)) ⌝ }
+{
+    if strided {
+        return Decoded::Fields(Instruction::Luti4s { size, i1, zn, zd });
+    }
+    Decoded::Fields(Instruction::Luti4c { size, i1, zn, zd })
+}
+
 // The instruction of a form with these fields; a form has at most six.
 fn named(form: u32, a: u32, b: u32, c: u32, d: u32, e: u32, f: u32) -> Decoded
     ensures { λ r. ⌜ decodedAs r ≡ instructionAt form a b c d e f ⌝ }
@@ -84,18 +95,8 @@ fn named(form: u32, a: u32, b: u32, c: u32, d: u32, e: u32, f: u32) -> Decoded
             pn: e,
             pd: f,
         }),
-        3 => Decoded::Fields(Instruction::Luti4c {
-            size: a,
-            i1: b,
-            zn: c,
-            zd: d,
-        }),
-        4 => Decoded::Fields(Instruction::Luti4s {
-            size: a,
-            i1: b,
-            zn: c,
-            zd: d,
-        }),
+        3 => luti4(false, a, b, c, d),
+        4 => luti4(true, a, b, c, d),
         5 => Decoded::Fields(Instruction::Uqrshrnb {
             size: a,
             shift: b,

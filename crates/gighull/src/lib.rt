@@ -5,19 +5,19 @@ mod replies;
 
 ghost use mathlib.Core.Path.{_≡_};
 ghost use Rattle.setting.specs.Numbers.{numberOf};
-ghost use Rattle.machine.specs.Machine.{machine};
-ghost use Rattle.machine.specs.Step.{stepOf};
-ghost use Rattle.machine.specs.Run.{runOf};
+ghost use Rattle.machine.specs.Machine.{machine, scalarsOf};
+ghost use Rattle.machine.specs.Step.{stepOf, stepAs};
+ghost use Rattle.machine.specs.Run.{runOf, runAs};
 ghost use Rattle.encoding.specs.Decode.{decodeOf};
 ghost use Rattle.encoding.specs.Encode.{encodedAs};
 ghost use Rattle.stretch.specs.Conflict.{conflictOf};
 ghost use Rattle.stretch.specs.Permission.{permittedOf};
 ghost use Rattle.listing.specs.Buffer.{Wrote, listedOf, outOf};
-ghost use Rattle.console.specs.Lent.{stepAs, runAs};
 ghost use Rattle.console.specs.Parts.{vectorOf, predicateOf};
 ghost use Rattle.gighull.specs.Numbers.{settingOf, numberIn, yesIn};
 ghost use Rattle.gighull.specs.Fields.{readInto, refusedOf, writeOf, writtenAs};
 ghost use Rattle.gighull.specs.Buffers.{fitting, listedAs};
+ghost use Rattle.gighull.specs.Claims.{NumbersRead};
 use encoding::Decoded;
 use encoding::Encoded;
 use machine::Scalars;
@@ -41,21 +41,43 @@ pub extern "C" fn gighull_step(
     setting::number(answer)
 }
 
-// A stretch of words on the lent machine. How many were done is left beside the record.
+// A stretch of words on the lent machine. Of the scalars a run moves PC alone, so PC is lent and the others come as numbers;
+// how many words were done is left beside it.
 #[no_mangle]
 pub extern "C" fn gighull_run(
     z: &mut [u8],
     p: &mut [u8],
     zt: &mut [u8],
-    scalars: &mut Scalars,
+    w12: u32,
+    w13: u32,
+    w14: u32,
+    w15: u32,
+    pc: &mut u64,
+    v: bool,
+    s: bool,
+    t: bool,
     vl: u32,
     features: u32,
     words: &[u32],
     done: &mut usize,
 ) -> u32
-    ensures { λ r. ⌜ runAs r (now (done .exit)) (now (z .exit)) (now (p .exit)) (now (zt .exit)) (now (scalars .exit)) ≡ runOf (settingOf vl features) (now (words .entry)) (machine (now (z .entry)) (now (p .entry)) (now (zt .entry)) (now (scalars .entry))) ⌝ }
+    ensures { λ r. ⌜ runAs r (now (done .exit)) (now (z .exit)) (now (p .exit)) (now (zt .exit)) (scalarsOf w12 w13 w14 w15 (now (pc .exit)) v s t) ≡ runOf (settingOf vl features) (now (words .entry)) (machine (now (z .entry)) (now (p .entry)) (now (zt .entry)) (scalarsOf w12 w13 w14 w15 (now (pc .entry)) v s t)) ⌝ }
 {
-    let answer = console::run_lent(z, p, zt, scalars, Setting { vl, features }, words, done);
+    let scalars = Scalars {
+        w12,
+        w13,
+        w14,
+        w15,
+        pc: *pc,
+        v,
+        s,
+        t,
+    };
+    let r = machine::run(z, p, zt, scalars, Setting { vl, features }, words);
+    let answer = r.answer;
+    let left = r.scalars;
+    *pc = left.pc;
+    *done = r.done;
     setting::number(answer)
 }
 
@@ -175,3 +197,8 @@ pub extern "C" fn gighull_lines(input: &[u8], out: &mut [u8], written: &mut usiz
     *written = listed.written;
     listed.read
 }
+
+// An instruction's seven numbers are read back as that instruction.
+pub fn claims()
+    ensures { λ _. ⌜ NumbersRead ⌝ }
+{}

@@ -2,5 +2,6 @@ pub mod Operations
 pub mod Inside
 pub mod Steps
 pub mod Runs
+pub mod Moves
 pub mod Registers
 pub mod BoardPoints

@@ -14,7 +14,7 @@ use Rattle.element.specs.Size.{isSize}
 use Rattle.element.specs.Slots.{slot}
 use Rattle.order.specs.Touch.{gets, puts}
 use Rattle.encoding.specs.Instructions.{inRange, pextInRange, dupInRange, narrowInRange}
-use Rattle.element.proofs.Tests.{both-yes as and-true}
+use Rattle.element.proofs.Tests.{both-yes}
 use Rattle.element.proofs.Units.{size-cases}
 use Rattle.encoding.proofs.FieldBits.{strided-zd}
 use Rattle.encoding.proofs.InRange.{pext-ranges, dup-ranges, luti-ranges, narrow-ranges, known-range}
@@ -37,7 +37,7 @@ known-done n e r f = rw e (f (rw (sym e) r))
 
 size-of-pext : (bound size portion counter pd : ℕ) → pextInRange bound size portion counter pd ≡ true → isSize size ≡ true
 size-of-pext bound size portion counter pd e =
-    and-true (isSize size) (ltb portion bound) (and-true (isSize size && ltb portion bound) (leb 8 counter && ltb counter 16) (and-true (isSize size && ltb portion bound && (leb 8 counter && ltb counter 16)) (ltb pd 16) e .0) .0) .0
+    both-yes (isSize size) (ltb portion bound) (both-yes (isSize size && ltb portion bound) (leb 8 counter && ltb counter 16) (both-yes (isSize size && ltb portion bound && (leb 8 counter && ltb counter 16)) (ltb pd 16) e .0) .0) .0
 
 -- what the calls ask of a known instruction
 pub pext2-i1 : {i : Instruction} {a b c vl : ℕ} (size i1 counter pd : ℕ) → i ≡ Pext2 size i1 counter pd → Ready a b c vl i → i1 < 2
@@ -58,7 +58,7 @@ dup-ready : (size offset index pg pn pd vl : ℕ) → dupInRange size offset ind
 unfolding dupReady
 dup-ready size offset index pg pn pd vl e a =
     let g = dup-ranges size offset index pg pn pd e in
-    let h = and-true (isSize size) (ltb offset (128 / size)) (and-true (isSize size && ltb offset (128 / size)) (leb 12 index && ltb index 16) (and-true (isSize size && ltb offset (128 / size) && (leb 12 index && ltb index 16)) (ltb pg 16 && ltb pn 16 && ltb pd 16) e .0) .0) in
+    let h = both-yes (isSize size) (ltb offset (128 / size)) (both-yes (isSize size && ltb offset (128 / size)) (leb 12 index && ltb index 16) (both-yes (isSize size && ltb offset (128 / size) && (leb 12 index && ltb index 16)) (ltb pg 16 && ltb pn 16 && ltb pd 16) e .0) .0) in
     rw (a, h .0, lt-ltb offset 16 (offset-lt size offset (h .0) (ltb-true offset (128 / size) (h .1))), lt-ltb pg 16 (g .pg-lt), lt-ltb pn 16 (g .pn-lt), lt-ltb pd 16 (g .pd-lt))
   where
     offset-lt : (n o : ℕ) → isSize n ≡ true → o < 128 / n → o < 16
@@ -68,7 +68,7 @@ narrow-ready : (size shift zn zd vl : ℕ) → narrowInRange size shift zn zd �
 unfolding narrowReady
 narrow-ready size shift zn zd vl e a =
     let g = narrow-ranges size shift zn zd e in
-    let k = and-true (leb 1 shift) (leb shift size) (g .1) in
+    let k = both-yes (leb 1 shift) (leb shift size) (g .1) in
     let l : 0 < shift = leb-true 1 shift (k .0) in
     rw (a, g .0, lt-ltb 0 shift l, k .1, lt-ltb zn 32 (g .2), lt-ltb zd 32 (g .3))
 
@@ -76,7 +76,7 @@ luti4c-ready : (size i1 zn zd vl : ℕ) → inRange (Luti4c size i1 zn zd) ≡ t
 unfolding luti4Ready
 luti4c-ready size i1 zn zd vl e a =
     let g = luti-ranges (eqb size 16 || eqb size 32) i1 zn (eqb (zd % 4) 0 && leb zd 28) e in
-    let most = leb-true zd 28 (and-true (eqb (zd % 4) 0) (leb zd 28) (g .3) .1) in
+    let most = leb-true zd 28 (both-yes (eqb (zd % 4) 0) (leb zd 28) (g .3) .1) in
     let l : zd + 3 * 1 < 32 = omega arith in
     rw (a, g .0, lt-ltb i1 2 (g .1), lt-ltb zn 32 (g .2), lt-ltb (zd + 3 * 1) 32 l)
 

@@ -2,7 +2,7 @@
 use mathlib.Core.Path.{_≡_, refl, sym, ap, _∙_}
 use mathlib.Core.Bool.{true, false}
 use mathlib.Core.List.{List, [], _∷_}
-use Prim.Native.Nat.{ℕ, zero, suc, _+_, _<_, _≤_}
+use Prim.Native.Nat.{ℕ, zero, suc, _+_, _*_, _%_, _^_, _<_, _≤_}
 use native.Mathlib.Numerals.{add-one}
 use native.Mathlib.Omega.{arith}
 use lib.Dec.{leb}
@@ -15,9 +15,27 @@ use Rattle.order.specs.Steps.{Ended, steps}
 use Rattle.machine.specs.Machine.{Machine, machine, advanced}
 use Rattle.machine.specs.Step.{Step, sized, refusalOf, execOf, after, stepOf}
 use Rattle.machine.specs.Run.{undone, runOf}
-use Rattle.machine.specs.Done.{Checked, movedBy}
+use Rattle.machine.specs.Done.{Checked, movedBy, movedOn}
 use Rattle.machine.specs.declared.Scalars.{Scalars}
 use Rattle.machine.proofs.Steps.{moved-done, moved-not}
+
+-- ---- PC after some words
+pub moved-on-once : (n : ℕ) (c d : Scalars) → d ≡ movedOn n c → advanced d ≡ movedOn (n + 1) c
+unfolding movedOn
+moved-on-once n c d e = rw (add-one, e)
+
+pub moved-on-none : (n : ℕ) (c : Scalars) → n ≡ 0 → c ≡ movedOn n c
+unfolding movedOn
+moved-on-none zero c e = refl
+moved-on-none (suc n) c e = absurd (omega arith)
+
+pub moved-on-pc : (n : ℕ) (c : Scalars) → (n ≡ 0 → ⊥) → _≡_ {A = Scalars} (record { w12 = c .w12; w13 = c .w13; w14 = c .w14; w15 = c .w15; pc = (c .pc + 4 * n) % 2 ^ 64; v = c .v; s = c .s; t = c .t }) (movedOn n c)
+unfolding movedOn
+moved-on-pc zero c ne = absurd (ne refl)
+moved-on-pc (suc zero) c ne = refl
+moved-on-pc (suc (suc n)) c ne =
+    let q : (c .pc + 4 * suc (suc n)) % 2 ^ 64 ≡ ((c .pc + 4 * suc n) % 2 ^ 64 + 4) % 2 ^ 64 = omega arith in
+    rw q (ap advanced (moved-on-pc (suc n) c (λ e. omega arith)))
 
 -- ---- one word more
 module _ (s : Setting) (words : List ℕ) (i a : ℕ) (m m′ : Machine) (e : Ended Machine)
@@ -54,18 +72,20 @@ module _ (s : Setting) (words : List ℕ) (i a : ℕ) (m m′ : Machine) (e : En
 module _ (s : Setting) (words : List ℕ) (i a : ℕ) (m : Machine) (z p zt : List ℕ) (c : Scalars) (e : Ended Machine)
     (have : i < length words) (one : _≡_ {A = Step} (record { number = a; left = machine z p zt (movedBy a c) }) (stepOf s (getD words i 0) m))
     (left : steps (refusalOf s) (execOf s) (drop i words) i m ≡ e) where
-  pub stopped-unmoved : (a ≡ 0 → ⊥) → _≡_ {A = Ended Machine} (record { answer = a; done = i; left = machine z p zt c }) e
-  stopped-unmoved n =
-      ap (λ (x : Scalars). record { answer = a; done = i; left = machine z p zt x }) (sym (moved-not a c n)) ∙ stopped s words i a m (machine z p zt (movedBy a c)) e have one left n
+  pub stopped-unmoved : (d : Scalars) → c ≡ movedOn i d → (a ≡ 0 → ⊥) → _≡_ {A = Ended Machine} (record { answer = a; done = i; left = machine z p zt (movedOn i d) }) e
+  stopped-unmoved d q n =
+      ap (λ (x : Scalars). record { answer = a; done = i; left = machine z p zt x }) (sym q ∙ sym (moved-not a c n)) ∙ stopped s words i a m (machine z p zt (movedBy a c)) e have one left n
 
   pub went-on-moved : (d : Scalars) → d ≡ advanced c → a ≡ 0 → steps (refusalOf s) (execOf s) (drop (i + 1) words) (i + 1) (machine z p zt d) ≡ e
   went-on-moved d q h =
       ap (λ (x : Scalars). steps (refusalOf s) (execOf s) (drop (i + 1) words) (i + 1) (machine z p zt x)) (q ∙ sym (moved-done a c h)) ∙ went-on s words i a m (machine z p zt (movedBy a c)) e have one left h
 
-pub ended : (s : Setting) (words : List ℕ) (i : ℕ) (m : Machine) (e : Ended Machine) → i ≡ length words → steps (refusalOf s) (execOf s) (drop i words) i m ≡ e
-    → _≡_ {A = Ended Machine} (record { answer = 0; done = length words; left = m }) e
-unfolding steps
-ended s words i m e h q = rw (h, drop-of-length-le words {i = length words} (omega arith)) at q
+module _ (s : Setting) (words : List ℕ) (i : ℕ) (z p zt : List ℕ) (c d : Scalars) (e : Ended Machine) where
+  pub ended : i ≡ length words → c ≡ movedOn i d → steps (refusalOf s) (execOf s) (drop i words) i (machine z p zt c) ≡ e
+      → _≡_ {A = Ended Machine} (record { answer = 0; done = i; left = machine z p zt (movedOn i d) }) e
+  unfolding steps
+  ended h k q =
+      ap (λ (x : Scalars). record { answer = 0; done = i; left = machine z p zt x }) (sym k) ∙ rw (drop-of-length-le words {i = i} (omega arith)) at q
 
 -- ---- before any word
 module _ (s : Setting) (words : List ℕ) (m : Machine) where

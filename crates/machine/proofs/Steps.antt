@@ -2,7 +2,7 @@
 use mathlib.Core.Path.{_≡_, refl, sym, ap, _∙_}
 use mathlib.Core.Bool.{true, false, _&&_}
 use mathlib.Core.List.{List}
-use Prim.Native.Nat.{ℕ, zero, suc}
+use Prim.Native.Nat.{ℕ, zero, suc, _<_}
 use native.Mathlib.Omega.{arith}
 use lib.Dec.{eqb}
 use lib.ListN.{length}
@@ -11,17 +11,31 @@ use Rattle.setting.specs.Allowed.{lengthAllowed, featuresAllowed, allowedOf}
 use Rattle.setting.specs.Numbers.{accept, refuse, numberOf}
 use Rattle.setting.specs.declared.Setting.{Setting}
 use Rattle.setting.specs.declared.Answer.{Answer}
+use Rattle.setting.specs.declared.Answer.the-variants.{Done, NotAllowed, WrongLength, Undefined, VectorsClosed, StreamingClosed, TableClosed, IndexPast, TooManyWords, OutOfRange}
 use Rattle.order.specs.Touch.{perform}
-use Rattle.encoding.specs.Decode.{decodeOf, decodedAs}
+use Rattle.encoding.specs.Rows.{rows}
+use Rattle.encoding.specs.Decode.{firstOf, decodeOf, decodedAs}
 use Rattle.encoding.specs.declared.Instruction.{Instruction}
 use Rattle.encoding.specs.declared.Decoded.{Decoded}
 use Rattle.encoding.specs.declared.Decoded.the-variants.{Fields, Refused}
-use Rattle.element.proofs.Tests.{both-yes as and-true}
+use Rattle.element.proofs.Tests.{both-yes}
 use Rattle.encoding.proofs.Round.{read-in-range, refused-three}
 use Rattle.machine.specs.Machine.{Machine, machine, advanced, next}
 use Rattle.machine.specs.Step.{Step, sized, firstFailed, needsOf, refusalOf, execOf, after, stepOf}
 use Rattle.machine.specs.Done.{Ready, doneOf, executed, executedOf, movedBy, steppedBy}
 use Rattle.machine.specs.declared.Scalars.{Scalars}
+
+pub number-small : (a : Answer) → numberOf a < 10
+number-small Done = omega arith
+number-small NotAllowed = omega arith
+number-small WrongLength = omega arith
+number-small Undefined = omega arith
+number-small VectorsClosed = omega arith
+number-small StreamingClosed = omega arith
+number-small TableClosed = omega arith
+number-small IndexPast = omega arith
+number-small TooManyWords = omega arith
+number-small OutOfRange = omega arith
 
 -- ---- an instruction that was read
 module _ (s : Setting) (i : Instruction) (z p zt : List ℕ) (c : Scalars) where
@@ -46,11 +60,16 @@ module _ (s : Setting) (w : ℕ) (m : Machine) where
     unfolding stepOf refusalOf
     step-not-sized h = rw (a, h)
 
+    -- under an allowed setting a word is read by the features alone
+    read-is : (d : Decoded) → decodedAs d ≡ firstOf rows (s .features) w → decodeOf s w ≡ decodedAs d
+    unfolding decodeOf
+    read-is d e = rw a (sym e)
+
     module _ (h : sized m ≡ true) where
-      pub step-undefined : (d : Decoded) (x : Answer) → decodedAs d ≡ decodeOf s w → d ≡ Refused x → steppedBy x (m .z) (m .p) (m .zt) (m .scalars) ≡ stepOf s w m
+      pub step-undefined : (d : Decoded) (x : Answer) → decodedAs d ≡ firstOf rows (s .features) w → d ≡ Refused x → steppedBy x (m .z) (m .p) (m .zt) (m .scalars) ≡ stepOf s w m
       unfolding stepOf refusalOf
       step-undefined d x e k =
-          let r : decodeOf s w ≡ refuse (numberOf x) = sym e ∙ ap decodedAs k in
+          let r : decodeOf s w ≡ refuse (numberOf x) = read-is d e ∙ ap decodedAs k in
           let three : numberOf x ≡ 3 = refused-three s w (numberOf x) a r in
           rw (a, h, r, three)
 
@@ -62,24 +81,24 @@ module _ (s : Setting) (w : ℕ) (m : Machine) where
       after-is i e zero = ap (λ (x : Machine). record { number = 0; left = x }) (sym (exec-is i e))
       after-is i e (suc k) = refl
 
-      pub step-executes : (d : Decoded) (i : Instruction) → decodedAs d ≡ decodeOf s w → d ≡ Fields i → executedOf s i m ≡ stepOf s w m
+      pub step-executes : (d : Decoded) (i : Instruction) → decodedAs d ≡ firstOf rows (s .features) w → d ≡ Fields i → executedOf s i m ≡ stepOf s w m
       unfolding stepOf refusalOf executedOf
       step-executes d i e k =
-          let r : decodeOf s w ≡ accept i = sym e ∙ ap decodedAs k in
+          let r : decodeOf s w ≡ accept i = read-is d e ∙ ap decodedAs k in
           let q : firstFailed (needsOf s i (m .scalars)) ≡ refusalOf s w m = rw (a, h, r) in
           after-is i r (firstFailed (needsOf s i (m .scalars))) ∙ ap (λ (n : ℕ). after n s w m) q
 
-      pub step-ready : (d : Decoded) (i : Instruction) → decodedAs d ≡ decodeOf s w → d ≡ Fields i → Ready (length (m .z)) (length (m .p)) (length (m .zt)) (s .vl) i
+      pub step-ready : (d : Decoded) (i : Instruction) → decodedAs d ≡ firstOf rows (s .features) w → d ≡ Fields i → Ready (length (m .z)) (length (m .p)) (length (m .zt)) (s .vl) i
       unfolding allowedOf
       step-ready d i e k =
-          let b = and-true (eqb (length (m .z)) 8192 && eqb (length (m .p)) 512) (eqb (length (m .zt)) 64) h in
-          let c = and-true (eqb (length (m .z)) 8192) (eqb (length (m .p)) 512) (b .0) in
+          let b = both-yes (eqb (length (m .z)) 8192 && eqb (length (m .p)) 512) (eqb (length (m .zt)) 64) h in
+          let c = both-yes (eqb (length (m .z)) 8192) (eqb (length (m .p)) 512) (b .0) in
           record {
             vectors = eqb-true (length (m .z)) 8192 (c .0);
             predicates = eqb-true (length (m .p)) 512 (c .1);
             table = eqb-true (length (m .zt)) 64 (b .1);
-            length = and-true (lengthAllowed (s .vl)) (featuresAllowed (s .features)) a .0;
-            range = read-in-range s i w (sym e ∙ ap decodedAs k);
+            length = both-yes (lengthAllowed (s .vl)) (featuresAllowed (s .features)) a .0;
+            range = read-in-range s i w (read-is d e ∙ ap decodedAs k);
           }
 
 -- ---- the scalars after a word

@@ -4,13 +4,15 @@ use mathlib.Core.Bool.{true}
 use mathlib.Core.List.{List}
 use Prim.Native.Nat.{ℕ, zero, suc}
 use Rattle.setting.specs.Allowed.{lengthAllowed, allowedOf}
+use Rattle.order.specs.Steps.{Ended}
 use Rattle.order.specs.Touch.{gets, puts}
 use Rattle.encoding.specs.Instructions.{inRange}
 use Rattle.encoding.specs.declared.Instruction.{Instruction}
-use Rattle.machine.specs.Machine.{Machine, machine, get, put, next, advanced}
+use Rattle.machine.specs.Machine.{Machine, get, put, next, advanced}
 use Rattle.machine.specs.Touched.{readsOf, writesOf}
 use Rattle.machine.specs.Gives.{givesOf}
-use Rattle.machine.specs.Step.{Step, sized, firstFailed, needsOf}
+use Rattle.machine.specs.Step.{Step, sized, firstFailed, needsOf, stepAs}
+use Rattle.machine.specs.Run.{runAs}
 use Rattle.setting.specs.Numbers.{numberOf}
 use Rattle.setting.specs.declared.Setting.{Setting}
 use Rattle.setting.specs.declared.Answer.{Answer}
@@ -46,4 +48,13 @@ movedBy zero c = advanced c
 movedBy (suc k) c = c
 
 abbrev pub steppedBy : Answer → List ℕ → List ℕ → List ℕ → Scalars → Step
-steppedBy a z p zt c = record { number = numberOf a; left = machine z p zt (movedBy (numberOf a) c) }
+steppedBy a z p zt c = stepAs (numberOf a) z p zt (movedBy (numberOf a) c)
+
+-- after n words that were done PC has moved n times, and no other scalar
+unfoldable pub movedOn : ℕ → Scalars → Scalars
+movedOn zero c = c
+movedOn (suc n) c = advanced (movedOn n c)
+
+-- a number after n words that were done, with the files at exit and the scalars as they were before the stretch
+abbrev pub wentAs : ℕ → ℕ → List ℕ → List ℕ → List ℕ → Scalars → Ended Machine
+wentAs a n z p zt c = runAs a n z p zt (movedOn n c)

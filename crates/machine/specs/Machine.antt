@@ -16,6 +16,9 @@ pub record Machine : Type 0 where
 abbrev pub machine : List ℕ → List ℕ → List ℕ → Scalars → Machine
 machine z p zt s = record { z = z; p = p; zt = zt; scalars = s }
 
+abbrev pub scalarsOf : ℕ → ℕ → ℕ → ℕ → ℕ → Bool → Bool → Bool → Scalars
+scalarsOf w12 w13 w14 w15 pc v s t = record { w12 = w12; w13 = w13; w14 = w14; w15 = w15; pc = pc; v = v; s = s; t = t }
+
 -- banks: 0 vectors, 1 predicates, 2 the table, 3 the index registers W12 to W15
 abbrev pub Z : ℕ → Register
 Z k = record { bank = 0; at = k }

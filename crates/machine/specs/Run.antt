@@ -9,6 +9,7 @@ use Rattle.setting.specs.declared.Setting.{Setting}
 use Rattle.order.specs.Steps.{Ended, steps}
 use Rattle.machine.specs.Machine.{Machine, machine}
 use Rattle.machine.specs.Step.{sized, firstFailed, need, refusalOf, execOf}
+use Rattle.machine.specs.declared.Scalars.{Scalars}
 use Rattle.machine.specs.declared.Ran.{Ran}
 
 -- the number that a run is refused with before any word, or 0
@@ -27,6 +28,10 @@ begun (suc k) s words m = undone (suc k) m
 unfoldable pub runOf : Setting → List ℕ → Machine → Ended Machine
 runOf s words m = begun (refusedBefore s words m) s words m
 
--- the number, the words done and the values of what `run` answers, with the files at exit
+-- a number, the words done, the files and the scalars as a run
+abbrev pub runAs : ℕ → ℕ → List ℕ → List ℕ → List ℕ → Scalars → Ended Machine
+runAs n d z p zt c = record { answer = n; done = d; left = machine z p zt c }
+
+-- what `run` answers, with the files at exit
 abbrev pub ranAs : Ran → List ℕ → List ℕ → List ℕ → Ended Machine
-ranAs r z p zt = record { answer = numberOf (r .answer); done = r .done; left = machine z p zt (r .scalars) }
+ranAs r z p zt = runAs (numberOf (r .answer)) (r .done) z p zt (r .scalars)

@@ -88,6 +88,10 @@ after (suc k) s w m = record { number = suc k; left = m }
 unfoldable pub stepOf : Setting → ℕ → Machine → Step
 stepOf s w m = after (refusalOf s w m) s w m
 
--- the number and values of what `step` answers, with the files at exit
+-- a number, the files and the scalars as a step
+abbrev pub stepAs : ℕ → List ℕ → List ℕ → List ℕ → Scalars → Step
+stepAs n z p zt c = record { number = n; left = machine z p zt c }
+
+-- what `step` answers, with the files at exit
 abbrev pub steppedAs : Stepped → List ℕ → List ℕ → List ℕ → Step
-steppedAs r z p zt = record { number = numberOf (r .answer); left = machine z p zt (r .scalars) }
+steppedAs r z p zt = stepAs (numberOf (r .answer)) z p zt (r .scalars)

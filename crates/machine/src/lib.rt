@@ -4,14 +4,15 @@ mod operate;
 
 ghost use mathlib.Core.Path.{_≡_};
 ghost use mathlib.Core.Bool.{_&&_};
+ghost use Prim.Native.Nat.{_≤_, _<_};
 ghost use lib.Dec.{eqb};
-ghost use Rattle.machine.specs.Machine.{machine, advanced};
+ghost use Rattle.machine.specs.Machine.{machine, advanced, scalarsOf};
 ghost use lib.ListN.{length};
 ghost use Rattle.setting.specs.Numbers.{numberOf};
 ghost use Rattle.order.specs.Steps.{steps};
 ghost use Rattle.machine.specs.Step.{refusalOf, execOf, stepOf, steppedAs};
 ghost use Rattle.machine.specs.Run.{runOf, ranAs};
-ghost use Rattle.machine.specs.Done.{Ready, Checked, executedOf, movedBy, steppedBy};
+ghost use Rattle.machine.specs.Done.{Ready, Checked, executedOf, movedBy, steppedBy, movedOn, wentAs};
 ghost use Rattle.machine.specs.Claims.{Claims};
 use encoding::Decoded;
 use encoding::Instruction;
@@ -48,6 +49,37 @@ fn advance(scalars: Scalars) -> Scalars
 {
     let mut next = scalars;
     next.pc = std::num::wrapping_add_u64(scalars.pc, 4);
+    next
+}
+
+fn answer_of(number: u32) -> Answer
+    requires { ⌜ number < 10 ⌝ }
+    ensures { λ r. ⌜ numberOf r ≡ number ⌝ }
+{
+    match number {
+        0 => Answer::Done,
+        1 => Answer::NotAllowed,
+        2 => Answer::WrongLength,
+        3 => Answer::Undefined,
+        4 => Answer::VectorsClosed,
+        5 => Answer::StreamingClosed,
+        6 => Answer::TableClosed,
+        7 => Answer::IndexPast,
+        8 => Answer::TooManyWords,
+        _ => Answer::OutOfRange,
+    }
+}
+
+// After so many words that were done.
+fn moved_on(scalars: Scalars, done: u32) -> Scalars
+    requires { ⌜ done ≤ 256 ⌝ }
+    ensures { λ r. ⌜ r ≡ movedOn done scalars ⌝ }
+{
+    if done == 0 {
+        return scalars;
+    }
+    let mut next = scalars;
+    next.pc = std::num::wrapping_add_u64(scalars.pc, 4 * (done as u64));
     next
 }
 
@@ -90,43 +122,57 @@ fn checked_step(
     requires { ⌜ Checked setting (machine (now z) (now p) (now zt) scalars) ⌝ }
     ensures { λ r. ⌜ steppedBy r (now (z .exit)) (now (p .exit)) (now (zt .entry)) scalars ≡ stepOf setting word (machine (now (z .entry)) (now (p .entry)) (now (zt .entry)) scalars) ⌝ }
 {
-    match decoder::decode_by_turns(setting, word) {
+    let features = setting.features;
+    match decoder::decode_by_turns(features, word) {
         Decoded::Fields(instruction) => execute(z, p, zt, scalars, setting, instruction),
         Decoded::Refused(answer) => answer,
     }
 }
 
-// The words from the first, up to one that is refused.
+// The words from the first, up to one that is refused; how many were done is left in `done`. The scalars come one by one and
+// the answer goes back as its number: a record or an enum would go through memory, which a step of a short word feels.
 fn checked_run(
     z: &mut [u8],
     p: &mut [u8],
     zt: &[u8],
-    scalars: Scalars,
+    w12: u32,
+    w13: u32,
+    w14: u32,
+    w15: u32,
+    pc: u64,
+    v: bool,
+    s: bool,
+    t: bool,
     setting: Setting,
     words: &[u32],
-) -> Ran
-    requires { ⌜ Checked setting (machine (now z) (now p) (now zt) scalars) ⌝ }
-    ensures { λ r. ⌜ ranAs r (now (z .exit)) (now (p .exit)) (now (zt .entry)) ≡ steps (refusalOf setting) (execOf setting) (now (words .entry)) 0 (machine (now (z .entry)) (now (p .entry)) (now (zt .entry)) scalars) ⌝ }
+    done: &mut u32,
+) -> u32
+    requires { ⌜ Checked setting (machine (now z) (now p) (now zt) (scalarsOf w12 w13 w14 w15 pc v s t)) × (length (now words) ≤ 256) ⌝ }
+    ensures { λ r. ⌜ (wentAs r (now (done .exit)) (now (z .exit)) (now (p .exit)) (now (zt .entry)) (scalarsOf w12 w13 w14 w15 pc v s t) ≡ steps (refusalOf setting) (execOf setting) (now (words .entry)) 0 (machine (now (z .entry)) (now (p .entry)) (now (zt .entry)) (scalarsOf w12 w13 w14 w15 pc v s t))) × (now (done .exit) ≤ 256) × (r < 10) ⌝ }
 {
-    let mut held = scalars;
-    let mut done: usize = 0;
-    while done < words.len() {
-        let answer = checked_step(&mut *z, &mut *p, zt, held, setting, words[done]);
-        if setting::number(answer) != 0 {
-            return Ran {
-                answer,
-                done,
-                scalars: held,
-            };
+    let mut held = Scalars {
+        w12,
+        w13,
+        w14,
+        w15,
+        pc,
+        v,
+        s,
+        t,
+    };
+    let mut n: u32 = 0;
+    while (n as usize) < words.len() {
+        let answer = checked_step(&mut *z, &mut *p, zt, held, setting, words[n as usize]);
+        let number = setting::number(answer);
+        if number != 0 {
+            *done = n;
+            return number;
         }
         held = advance(held);
-        done += 1;
+        n += 1;
     }
-    Ran {
-        answer: Answer::Done,
-        done: words.len(),
-        scalars: held,
-    }
+    *done = n;
+    0
 }
 
 // One word: a stretch of one, so that `checked_step` has a single caller and goes into its loop. ZT0 is lent for words to
@@ -154,12 +200,26 @@ pub fn step(
         };
     }
     let one = [word];
-    let r = checked_run(z, p, zt, scalars, setting, &one);
-    let answer = r.answer;
-    let left = r.scalars;
+    let mut done: u32 = 0;
+    let number = checked_run(
+        z,
+        p,
+        zt,
+        scalars.w12,
+        scalars.w13,
+        scalars.w14,
+        scalars.w15,
+        scalars.pc,
+        scalars.v,
+        scalars.s,
+        scalars.t,
+        setting,
+        &one,
+        &mut done,
+    );
     Stepped {
-        answer,
-        scalars: left,
+        answer: answer_of(number),
+        scalars: moved_on(scalars, done),
     }
 }
 
@@ -193,7 +253,28 @@ pub fn run(
     if words.len() > 256 {
         return not_begun(Answer::TooManyWords, scalars);
     }
-    checked_run(z, p, zt, scalars, setting, words)
+    let mut done: u32 = 0;
+    let number = checked_run(
+        z,
+        p,
+        zt,
+        scalars.w12,
+        scalars.w13,
+        scalars.w14,
+        scalars.w15,
+        scalars.pc,
+        scalars.v,
+        scalars.s,
+        scalars.t,
+        setting,
+        words,
+        &mut done,
+    );
+    Ran {
+        answer: answer_of(number),
+        done: done as usize,
+        scalars: moved_on(scalars, done),
+    }
 }
 
 // The theorems about these definitions. It does nothing: its promise has the check demand their proofs.

@@ -71,7 +71,14 @@ mod c {
             p_len: usize,
             zt: *mut u8,
             zt_len: usize,
-            scalars: *mut Scalars,
+            w12: u32,
+            w13: u32,
+            w14: u32,
+            w15: u32,
+            pc: *mut u64,
+            v: bool,
+            s: bool,
+            t: bool,
             vl: u32,
             features: u32,
             words: *const u32,
@@ -166,7 +173,7 @@ pub fn step(
 }
 
 /// A stretch of words on the lent machine: the number that it stops with, and
-/// in `done` how many words were done.
+/// in `done` how many words were done. Of the scalars only PC is lent on.
 #[inline]
 #[allow(clippy::too_many_arguments)]
 pub fn run(
@@ -179,8 +186,8 @@ pub fn run(
     words: &[u32],
     done: &mut usize,
 ) -> u32 {
-    // SAFETY: as for `step`; the words are only read, and `done` is a number
-    // that is lent for writing.
+    // SAFETY: as for `step`; the words are only read, and PC and `done` are
+    // numbers that are lent for writing.
     unsafe {
         c::gighull_run(
             z.as_mut_ptr(),
@@ -189,7 +196,14 @@ pub fn run(
             p.len(),
             zt.as_mut_ptr(),
             zt.len(),
-            scalars,
+            scalars.w12,
+            scalars.w13,
+            scalars.w14,
+            scalars.w15,
+            &mut scalars.pc,
+            scalars.v,
+            scalars.s,
+            scalars.t,
             vl,
             features,
             words.as_ptr(),

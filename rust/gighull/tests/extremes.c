@@ -46,7 +46,7 @@ static void steps_and_runs(size_t zl, size_t pl, size_t ztl) {
                 told(gighull_step(z, zl, p, pl, zt, ztl, &s, LENGTHS_OF_VL[v], FEATURES[f], WORDS[w]));
             for (size_t n = 0; n <= COUNT(WORDS); n += 4) {
                 size_t done = 99;
-                told(gighull_run(z, zl, p, pl, zt, ztl, &s, LENGTHS_OF_VL[v], FEATURES[f], words, n, &done));
+                told(gighull_run_lent(z, zl, p, pl, zt, ztl, &s, LENGTHS_OF_VL[v], FEATURES[f], words, n, &done));
                 if (done > n)
                     exit(1);
             }
@@ -67,7 +67,7 @@ static void long_stretches(size_t length) {
     struct gighull_scalars s = {0, 0, 0, 0, UINT64_MAX, true, true, true};
     size_t done = 0;
     uint32_t yes = 7;
-    told(gighull_run(z, 8192, p, 512, zt, 64, &s, 2048, 31, words, length, &done));
+    told(gighull_run_lent(z, 8192, p, 512, zt, 64, &s, 2048, 31, words, length, &done));
     told(gighull_permitted(128, 31, words, length, order, length, &yes));
     if (length)
         order[length - 1] = 0xffffffff;

@@ -108,13 +108,14 @@ int main(void) {
     count = gighull_lines(input, sizeof input, out, sizeof out, &written);
     printf("lines answers %zu, %zu: %016" PRIx64 "\n", count, written, hash(out, sizeof out));
 
-    const uint32_t words[] = {UINT32_C(0x45283801), UINT32_C(0x25207010), UINT32_C(0xc08a9000), 0};
+    const uint32_t words[] = {UINT32_C(0x45283801), UINT32_C(0x25207010), UINT32_C(0xc08a9000), UINT32_C(0x25257c23), 0};
     size_t done = 9;
     fresh();
-    answer = gighull_run(z, sizeof z, p, sizeof p, zt, sizeof zt, &scalars, 256, 31, words, 4, &done);
+    answer = gighull_run_lent(z, sizeof z, p, sizeof p, zt, sizeof zt, &scalars, 256, 31, words, 5, &done);
     printf("run answers %" PRIu32 " after %zu", answer, done);
     machine();
-    answer = gighull_run(z, sizeof z, p, sizeof p, zt, sizeof zt, &scalars, 256, 31, words, 0, &done);
+    answer = gighull_run(z, sizeof z, p, sizeof p, zt, sizeof zt, scalars.w12, scalars.w13, scalars.w14, scalars.w15,
+                         &scalars.pc, scalars.v, scalars.s, scalars.t, 256, 31, words, 0, &done);
     printf("run of nothing answers %" PRIu32 " after %zu", answer, done);
     machine();
     uint32_t yes = 9;

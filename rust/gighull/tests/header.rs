@@ -182,7 +182,7 @@ fn said_by_rust() -> String {
         hash(&out)
     ));
 
-    let words = [0x4528_3801, 0x2520_7010, 0xc08a_9000, 0];
+    let words = [0x4528_3801, 0x2520_7010, 0xc08a_9000, 0x2525_7c23, 0];
     let mut lent = Lent::fresh();
     say(format!("run {}", lent.run(256, 31, &words)));
     say(format!("run of nothing {}", lent.run(256, 31, &[])));
@@ -275,7 +275,10 @@ fn in_the_header() -> BTreeSet<String> {
 fn the_same_functions_everywhere() {
     let rust: BTreeSet<String> = ffi::FUNCTIONS.into_iter().map(str::to_string).collect();
     assert_eq!(in_the_archive(), rust);
-    assert_eq!(in_the_header(), rust);
+    // The header itself defines one over another.
+    let mut declared = rust;
+    declared.insert("gighull_run_lent".to_string());
+    assert_eq!(in_the_header(), declared);
 }
 
 /// The record's fields are the library's: each index register is the one that
@@ -292,8 +295,11 @@ fn the_record_is_the_library_s() {
             machine.set_bit(15, 0, true).unwrap();
             machine.set_bit(1, 1 + set, true).unwrap();
             let word = 0x2524_7c23 | read << 16;
+            let mut other = machine.clone();
             machine.step(gighull::Setting::FULL, word).unwrap();
             assert_eq!(machine.bit(3, 0), Ok(read == set));
+            other.run(gighull::Setting::FULL, &[word]).unwrap();
+            assert!(other == machine, "a run of one word is a step");
             let expected = Scalars {
                 w12: 1,
                 w13: 2,

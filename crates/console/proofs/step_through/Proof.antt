@@ -47,10 +47,9 @@ use Rattle.setting.specs.Numbers.{numberOf}
 use Rattle.setting.specs.declared.Answer.{Answer}
 use Rattle.setting.specs.declared.Setting.{Setting}
 use Rattle.machine.specs.Machine.{machine}
-use Rattle.machine.specs.Step.{stepOf}
+use Rattle.machine.specs.Step.{stepOf, stepAs}
 use Rattle.machine.specs.declared.Scalars.{Scalars}
 use Rattle.machine.specs.declared.Stepped.{Stepped}
-use Rattle.console.specs.Lent.{stepAs}
 use Rattle.setting.proofs.Answer as N
 use Rattle.setting.proofs.Answer.Laws as N′
 use Rattle.setting.proofs.Setting as S

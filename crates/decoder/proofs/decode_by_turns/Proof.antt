@@ -2,17 +2,10 @@
 use mathlib.Core.Path.{sym, ap, _∙_}
 use native.Mathlib.Omega.{arith}
 use Rattle.setting.specs.Numbers.{accept}
-use Rattle.element.proofs.Tests.{said-no, said-yes}
-use Rattle.decoder.proofs.Cases.{decode-not-allowed, decode-row, decode-no-row, dup-condition}
+use Rattle.decoder.proofs.Cases.{read-row, read-no-row, dup-condition}
 use borrow.Author.Needs.{needs}
 use Rattle.decoder.proofs.decode_by_turns.Statement.{statement}
 use Rattle.decoder.proofs.decode_by_turns.Tie as tie
-
-allowed-requires : tie.Need-allowed-requires
-allowed-requires c κs = search needs
-
-returns : tie.Need-returns
-returns c = decode-not-allowed _ _ (said-no (c .before .allowed .ensures) (c .if1 .taken))
 
 row-by-turns-requires : tie.Need-row-by-turns-requires
 row-by-turns-requires c κs = search needs
@@ -35,39 +28,37 @@ luti4s-requires c κs = search needs
 uqrshrnb-requires : tie.Need-uqrshrnb-requires
 uqrshrnb-requires c κs = search needs
 
+returns : tie.Need-returns
+returns c =
+    ap accept (c .pext1 .ensures) ∙ read-row _ _ 0 (sym (c .before .match .keys1) ∙ c .before .before .row-by-turns .ensures)
+
 returns-2 : tie.Need-returns-2
 returns-2 c =
-    ap accept (c .pext1 .ensures) ∙ decode-row _ _ (said-yes (c .before .before .before .before .allowed .ensures) (c .before .before .before .if1 .left)) 0 (sym (c .before .match .keys1) ∙ c .before .before .row-by-turns .ensures)
+    ap accept (c .pext2 .ensures) ∙ read-row _ _ 1 (sym (c .before .match .keys2) ∙ c .before .before .row-by-turns .ensures)
 
 returns-3 : tie.Need-returns-3
 returns-3 c =
-    ap accept (c .pext2 .ensures) ∙ decode-row _ _ (said-yes (c .before .before .before .before .allowed .ensures) (c .before .before .before .if1 .left)) 1 (sym (c .before .match .keys2) ∙ c .before .before .row-by-turns .ensures)
+    ap accept (c .dup .ensures) ∙ read-row _ _ 2 (sym (c .before .match .keys3) ∙ c .before .before .row-by-turns .ensures)
 
 returns-4 : tie.Need-returns-4
 returns-4 c =
-    ap accept (c .dup .ensures) ∙ decode-row _ _ (said-yes (c .before .before .before .before .allowed .ensures) (c .before .before .before .if1 .left)) 2 (sym (c .before .match .keys3) ∙ c .before .before .row-by-turns .ensures)
+    ap accept (c .luti4c .ensures) ∙ read-row _ _ 3 (sym (c .before .match .keys4) ∙ c .before .before .row-by-turns .ensures)
 
 returns-5 : tie.Need-returns-5
 returns-5 c =
-    ap accept (c .luti4c .ensures) ∙ decode-row _ _ (said-yes (c .before .before .before .before .allowed .ensures) (c .before .before .before .if1 .left)) 3 (sym (c .before .match .keys4) ∙ c .before .before .row-by-turns .ensures)
+    ap accept (c .luti4s .ensures) ∙ read-row _ _ 4 (sym (c .before .match .keys5) ∙ c .before .before .row-by-turns .ensures)
 
 returns-6 : tie.Need-returns-6
 returns-6 c =
-    ap accept (c .luti4s .ensures) ∙ decode-row _ _ (said-yes (c .before .before .before .before .allowed .ensures) (c .before .before .before .if1 .left)) 4 (sym (c .before .match .keys5) ∙ c .before .before .row-by-turns .ensures)
+    ap accept (c .uqrshrnb .ensures) ∙ read-row _ _ 5 (sym (c .before .match .keys6) ∙ c .before .before .row-by-turns .ensures)
 
 returns-7 : tie.Need-returns-7
-returns-7 c =
-    ap accept (c .uqrshrnb .ensures) ∙ decode-row _ _ (said-yes (c .before .before .before .before .allowed .ensures) (c .before .before .before .if1 .left)) 5 (sym (c .before .match .keys6) ∙ c .before .before .row-by-turns .ensures)
-
-returns-8 : tie.Need-returns-8
-returns-8 c = decode-no-row _ _ (said-yes (c .before .before .before .allowed .ensures) (c .before .before .if1 .left)) (c .before .row-by-turns .result) (c .before .row-by-turns .ensures) (omega arith)
+returns-7 c = read-no-row _ _ (c .before .row-by-turns .result) (c .before .row-by-turns .ensures) (omega arith)
 
 pub decode-by-turns-spec : {M : Type 1} → statement M
 decode-by-turns-spec =
     tie.close
     (tie.spec
-    allowed-requires
-    returns
     row-by-turns-requires
     pext1-requires
     pext2-requires
@@ -75,10 +66,10 @@ decode-by-turns-spec =
     luti4c-requires
     luti4s-requires
     uqrshrnb-requires
+    returns
     returns-2
     returns-3
     returns-4
     returns-5
     returns-6
-    returns-7
-    returns-8)
+    returns-7)

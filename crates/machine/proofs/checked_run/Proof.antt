@@ -7,30 +7,39 @@ use lib.ListN.{length, drop}
 use borrow.Author.Needs.{needs}
 use Rattle.setting.specs.declared.Setting.{Setting}
 use Rattle.order.specs.Steps.{steps}
-use Rattle.machine.specs.Machine.{machine}
+use Rattle.machine.specs.Machine.{machine, scalarsOf}
 use Rattle.machine.specs.Step.{refusalOf, execOf}
-use Rattle.machine.specs.Done.{Checked}
+use Rattle.machine.specs.Done.{Checked, movedOn}
 use Rattle.machine.specs.declared.Scalars.{Scalars}
-use Rattle.machine.proofs.Runs.{stopped-unmoved, went-on-moved, ended, still-checked}
+use Rattle.machine.proofs.Steps.{number-small}
+use Rattle.machine.proofs.Runs.{moved-on-none, moved-on-once, stopped-unmoved, went-on-moved, ended, still-checked}
 use Rattle.machine.proofs.checked_run.Statement.{statement}
 use Rattle.machine.proofs.checked_run.Tie as tie
 
 -- after some words the rest of the stretch ends as the whole does
-record Running (z₀ p₀ zt : List ℕ) (s : Setting) (words : List ℕ) (held₀ : Scalars) (z p : List ℕ) (held : Scalars) (done : ℕ) : Type 0 where
+record Running (z₀ p₀ zt : List ℕ) (s : Setting) (words : List ℕ) (before : Scalars) (z p : List ℕ) (held : Scalars) (done : ℕ) : Type 0 where
+  short : length words ≤ 256
   within : done ≤ length words
   vectors : length z ≡ length z₀
   predicates : length p ≡ length p₀
   checked : Checked s (machine z p zt held)
-  left : steps (refusalOf s) (execOf s) (drop done words) done (machine z p zt held) ≡ steps (refusalOf s) (execOf s) words 0 (machine z₀ p₀ zt held₀)
+  scalars : held ≡ movedOn done before
+  left : steps (refusalOf s) (execOf s) (drop done words) done (machine z p zt held) ≡ steps (refusalOf s) (execOf s) words 0 (machine z₀ p₀ zt before)
 
 abbrev Inv-loop : tie.InvT-loop
-Inv-loop z₀ p₀ zt setting words held₀ done₀ z p held done = Running z₀ p₀ zt setting words held₀ z p held done
+Inv-loop z₀ p₀ zt w12 w13 w14 w15 pc v s t setting words done₀ held₀ n₀ z p done held n = Running z₀ p₀ zt setting words (scalarsOf w12 w13 w14 w15 pc v s t) z p held n
 
 abbrev μ-loop : tie.MeasureT-loop
-μ-loop z₀ p₀ zt setting words held₀ done₀ z p held done = length words - done
+μ-loop z₀ p₀ zt w12 w13 w14 w15 pc v s t setting words done₀ held₀ n₀ z p done held n = length words - n
 
 loop-holds : tie.Need-loop-holds Inv-loop μ-loop
-loop-holds c = record { within = omega arith; vectors = refl; predicates = refl; checked = c .before .before .before .before .pre; left = refl }
+loop-holds c = record { short = c .before .before .before .before .pre .1; within = omega arith; vectors = refl; predicates = refl; checked = c .before .before .before .before .pre .0; scalars = moved-on-none 0 _ refl; left = refl }
+
+cast-loop : tie.Need-cast-loop Inv-loop μ-loop
+cast-loop c = search needs
+
+cast-checked-step : tie.Need-cast-checked-step Inv-loop μ-loop
+cast-checked-step c = search needs
 
 mul-checked-step : tie.Need-mul-checked-step Inv-loop μ-loop
 mul-checked-step c = search needs
@@ -53,13 +62,13 @@ same-length-2 c = c .before .before .before .before .before .before .checked-ste
 returns : tie.Need-returns Inv-loop μ-loop
 returns c = let l = c .before .before .before .before .before .before .before .before .before .before .before .loop in
     let k = c .before .before .before .before .before .before .checked-step in
-    stopped-unmoved _ _ (l .done) _ _ _ _ _ _ _ (omega arith) (k .ensures) (l .inv .left) (λ h. c .if1 .taken (c .before .number .ensures ∙ h))
+    (rw (c .before .number .ensures) (stopped-unmoved _ _ (l .n) _ _ _ _ _ _ _ (omega arith) (k .ensures) (l .inv .left) _ (l .inv .scalars) (λ h. c .if1 .taken (c .before .number .ensures ∙ h))), omega (arith, l .inv .within, l .inv .short), rw (c .before .number .ensures) (number-small (k .result)))
 
 advance-requires : tie.Need-advance-requires Inv-loop μ-loop
 advance-requires c κs = search needs
 
-add-done : tie.Need-add-done Inv-loop μ-loop
-add-done c = omega arith
+add-n : tie.Need-add-n Inv-loop μ-loop
+add-n c = omega arith
 
 loop-less : tie.Need-loop-less Inv-loop μ-loop
 loop-less c = omega arith
@@ -70,11 +79,13 @@ loop-again c = let l = c .before .before .before .before .before .before .before
     let y = k .kept .0 in
     let x = k .kept .1 .0 in
     record {
+      short = l .inv .short;
       within = omega arith;
       vectors = y ∙ l .inv .vectors;
       predicates = x ∙ l .inv .predicates;
       checked = still-checked _ _ _ _ _ _ _ _ y x (l .inv .checked);
-      left = went-on-moved _ _ (l .done) _ _ _ _ _ _ _ (omega arith) (k .ensures) (l .inv .left) _ (c .advance .ensures) (sym (c .before .before .number .ensures) ∙ c .before .if1 .left);
+      scalars = c .advance .ensures ∙ moved-on-once _ _ _ (l .inv .scalars);
+      left = went-on-moved _ _ (l .n) _ _ _ _ _ _ _ (omega arith) (k .ensures) (l .inv .left) _ (c .advance .ensures) (sym (c .before .before .number .ensures) ∙ c .before .if1 .left);
     }
 
 same-length-3 : tie.Need-same-length-3 Inv-loop μ-loop
@@ -84,7 +95,7 @@ same-length-4 : tie.Need-same-length-4 Inv-loop μ-loop
 same-length-4 c = c .before .loop .inv .predicates
 
 returns-2 : tie.Need-returns-2 Inv-loop μ-loop
-returns-2 c = let l = c .before .loop in ended _ _ (l .done) _ _ (omega arith) (l .inv .left)
+returns-2 c = let l = c .before .loop in (ended _ _ (l .n) _ _ _ _ _ _ (omega arith) (l .inv .scalars) (l .inv .left), omega (arith, l .inv .within, l .inv .short), omega arith)
 
 pub checked-run-spec : {M : Type 1} → statement M
 checked-run-spec =
@@ -93,6 +104,8 @@ checked-run-spec =
     Inv-loop
     μ-loop
     loop-holds
+    cast-loop
+    cast-checked-step
     mul-checked-step
     shared-slice-read-checked-step
     checked-step-requires
@@ -101,7 +114,7 @@ checked-run-spec =
     same-length-2
     returns
     advance-requires
-    add-done
+    add-n
     loop-less
     loop-again
     same-length-3

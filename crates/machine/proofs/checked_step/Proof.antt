@@ -14,7 +14,7 @@ enum-known-instruction c = search needs
 
 execute-requires : tie.Need-execute-requires
 execute-requires c κs = let s = c .before .before .before .before .before .before .before .before .before in
-    step-ready _ _ (machine (s .args .z .now) (s .args .p .now) (s .args .zt .now) (s .args .scalars)) (s .pre .allowed) (s .pre .files) _ _ (c .before .before .before .before .before .decode-by-turns .ensures) (c .before .before .before .instruction .given .1)
+    step-ready (s .args .setting) (s .args .word) (machine (s .args .z .now) (s .args .p .now) (s .args .zt .now) (s .args .scalars)) (s .pre .allowed) (s .pre .files) _ _ (c .before .before .before .before .before .decode-by-turns .ensures) (c .before .before .before .instruction .given .1)
 
 enum-known-answer : tie.Need-enum-known-answer
 enum-known-answer c = search needs
@@ -31,7 +31,7 @@ returns c = let s = c .before .before .before .before .before .before .before .b
 
 returns-2 : tie.Need-returns-2
 returns-2 c = let s = c .before .before .before .before .before .before .before in
-    step-undefined _ _ (machine (s .args .z .now) (s .args .p .now) (s .args .zt .now) (s .args .scalars)) (s .pre .allowed) (s .pre .files) _ _ (c .before .before .before .decode-by-turns .ensures) (c .before .answer .given .1)
+    step-undefined (s .args .setting) (s .args .word) (machine (s .args .z .now) (s .args .p .now) (s .args .zt .now) (s .args .scalars)) (s .pre .allowed) (s .pre .files) _ _ (c .before .before .before .decode-by-turns .ensures) (c .before .answer .given .1)
 
 pub checked-step-spec : {M : Type 1} → statement M
 checked-step-spec =

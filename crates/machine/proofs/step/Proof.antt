@@ -3,6 +3,7 @@ use mathlib.Core.Path.{ap, _∙_}
 use Rattle.element.proofs.Tests.{said-no, said-yes}
 use Rattle.machine.proofs.Steps.{step-not-allowed, step-not-sized}
 use Rattle.machine.proofs.Runs.{firstStep, one-word}
+use native.Mathlib.Omega.{arith}
 use borrow.Author.Needs.{needs}
 use Rattle.machine.proofs.step.Statement.{statement}
 use Rattle.machine.proofs.step.Tie as tie
@@ -23,7 +24,13 @@ slice-aggregate-checked-run : tie.Need-slice-aggregate-checked-run
 slice-aggregate-checked-run c = search needs
 
 checked-run-requires : tie.Need-checked-run-requires
-checked-run-requires c κs = record { allowed = said-yes (c .before .before .before .before .before .before .before .allowed .ensures) (c .before .before .before .before .before .before .if1 .left); files = said-yes (c .before .before .before .before .before .sized .ensures) (c .before .before .before .before .if2 .left) }
+checked-run-requires c κs = (record { allowed = said-yes (c .before .before .before .before .before .before .before .before .allowed .ensures) (c .before .before .before .before .before .before .before .if1 .left); files = said-yes (c .before .before .before .before .before .before .sized .ensures) (c .before .before .before .before .before .if2 .left) }, omega arith)
+
+answer-of-requires : tie.Need-answer-of-requires
+answer-of-requires c κs = c .before .before .before .before .checked-run .ensures .2
+
+moved-on-requires : tie.Need-moved-on-requires
+moved-on-requires c κs = c .before .before .before .before .before .checked-run .ensures .1
 
 same-length : tie.Need-same-length
 same-length c = search needs
@@ -35,7 +42,7 @@ same-length-3 : tie.Need-same-length-3
 same-length-3 c = search needs
 
 returns-3 : tie.Need-returns-3
-returns-3 c = ap firstStep (c .before .before .before .before .before .checked-run .ensures) ∙ one-word _ _ _
+returns-3 c = rw (c .moved-on .ensures, c .before .answer-of .ensures) (ap firstStep (c .before .before .before .before .before .before .checked-run .ensures .0) ∙ one-word _ _ _)
 
 pub step-spec : {M : Type 1} → statement M
 step-spec =
@@ -47,6 +54,8 @@ step-spec =
     returns-2
     slice-aggregate-checked-run
     checked-run-requires
+    answer-of-requires
+    moved-on-requires
     same-length
     same-length-2
     same-length-3

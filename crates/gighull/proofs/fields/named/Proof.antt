@@ -1,7 +1,15 @@
 -- `named` meets its contract: in each arm the form is known.
+use mathlib.Core.Path.{_∙_}
+use borrow.Author.Needs.{needs}
 use borrow.Author.Tests.{ne-eqb}
 use Rattle.gighull.proofs.fields.named.Statement.{statement}
 use Rattle.gighull.proofs.fields.named.Tie as tie
+
+luti4-requires : tie.Need-luti4-requires
+luti4-requires c κs = search needs
+
+luti4-requires-2 : tie.Need-luti4-requires-2
+luti4-requires-2 c κs = search needs
 
 returns : tie.Need-returns
 returns c = rw (c .match .keys1)
@@ -13,10 +21,10 @@ returns-3 : tie.Need-returns-3
 returns-3 c = rw (c .match .keys3)
 
 returns-4 : tie.Need-returns-4
-returns-4 c = rw (c .match .keys4)
+returns-4 c = c .luti4 .ensures ∙ rw (c .before .match .keys4)
 
 returns-5 : tie.Need-returns-5
-returns-5 c = rw (c .match .keys5)
+returns-5 c = c .luti42 .ensures ∙ rw (c .before .match .keys5)
 
 returns-6 : tie.Need-returns-6
 returns-6 c = rw (c .match .keys6)
@@ -29,4 +37,4 @@ returns-7 c =
 
 pub named-spec : {M : Type 1} → statement M
 named-spec =
-    tie.close (tie.spec returns returns-2 returns-3 returns-4 returns-5 returns-6 returns-7)
+    tie.close (tie.spec luti4-requires luti4-requires-2 returns returns-2 returns-3 returns-4 returns-5 returns-6 returns-7)

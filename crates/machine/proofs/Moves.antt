@@ -1,0 +1,85 @@
+-- A run moves PC once for each word done, and no other scalar: by the touch table no word writes an index register, and words follow by induction.
+use mathlib.Core.Path.{_≡_, refl, sym, ap, _∙_}
+use mathlib.Core.List.{List, [], _∷_}
+use Prim.Native.Nat.{ℕ, zero, suc}
+use Rattle.setting.specs.Numbers.{Outcome, accept, refuse, numberOf}
+use Rattle.setting.specs.declared.Setting.{Setting}
+use Rattle.order.specs.Steps.{Ended, steps}
+use Rattle.order.specs.Touch.{perform, puts}
+use Rattle.encoding.specs.Decode.{decodeOf}
+use Rattle.encoding.specs.declared.Instruction.{Instruction}
+use Rattle.encoding.specs.declared.Instruction.the-variants.{Pext1, Pext2, Dup, Luti4c, Luti4s, Uqrshrnb}
+use Rattle.machine.specs.Machine.{Machine, scalarsOf, put, next, advanced}
+use Rattle.machine.specs.Touched.{writesOf}
+use Rattle.machine.specs.Gives.{givesOf}
+use Rattle.machine.specs.Step.{refusalOf, execOf}
+use Rattle.machine.specs.Run.{refusedBefore, begun, runOf, runAs, ranAs}
+use Rattle.machine.specs.Done.{movedOn}
+use Rattle.machine.specs.Claims.{RunMovesPc}
+use Rattle.machine.specs.declared.Scalars.{Scalars}
+use Rattle.machine.specs.declared.Ran.{Ran}
+
+-- new contents of what an instruction writes leave the scalars
+contents-only : (vl : ℕ) (i : Instruction) (cs : List (List ℕ)) (m : Machine) → puts (put vl) (writesOf i) (givesOf vl i cs) m .scalars ≡ m .scalars
+unfolding puts put givesOf
+contents-only vl (Pext1 size imm2 counter pd) cs m = refl
+contents-only vl (Pext2 size i1 counter pd) cs m = refl
+contents-only vl (Dup size offset index pg pn pd) cs m = refl
+contents-only vl (Luti4c size i1 zn zd) cs m = refl
+contents-only vl (Luti4s size i1 zn zd) cs m = refl
+contents-only vl (Uqrshrnb size shift zn zd) cs m = refl
+
+word-moves : (s : Setting) (w : ℕ) (m : Machine) → execOf s w m .scalars ≡ advanced (m .scalars)
+unfolding execOf perform next puts
+word-moves s w m = go (decodeOf s w) refl
+  where
+    go : (o : Outcome Instruction) → decodeOf s w ≡ o → execOf s w m .scalars ≡ advanced (m .scalars)
+    go (accept i) e = rw e (ap advanced (contents-only (s .vl) i _ m))
+    go (refuse n) e = rw e
+
+one-more : (s : Setting) (c : Scalars) (w n : ℕ) (m : Machine) → m .scalars ≡ movedOn n c → execOf s w m .scalars ≡ movedOn (suc n) c
+unfolding movedOn
+one-more s c w n m e = word-moves s w m ∙ ap advanced e
+
+words-move : (s : Setting) (c : Scalars) (words : List ℕ) (n : ℕ) (m : Machine) → m .scalars ≡ movedOn n c
+    → steps (refusalOf s) (execOf s) words n m .left .scalars ≡ movedOn (steps (refusalOf s) (execOf s) words n m .done) c
+unfolding steps
+words-move s c [] n m e = e
+words-move s c (w ∷ ws) n m e = go (refusalOf s w m) refl (λ k. words-move s c ws (suc n) (execOf s w m) k)
+  where
+    go : (k : ℕ) → refusalOf s w m ≡ k → (execOf s w m .scalars ≡ movedOn (suc n) c → steps (refusalOf s) (execOf s) ws (suc n) (execOf s w m) .left .scalars ≡ movedOn (steps (refusalOf s) (execOf s) ws (suc n) (execOf s w m) .done) c)
+        → steps (refusalOf s) (execOf s) (w ∷ ws) n m .left .scalars ≡ movedOn (steps (refusalOf s) (execOf s) (w ∷ ws) n m .done) c
+    go zero r more = rw (r, steps) (more (one-more s c w n m e))
+    go (suc k) r more = rw (r, steps) e
+
+pub run-moves-pc : RunMovesPc
+unfolding runOf movedOn
+run-moves-pc s words m = go (refusedBefore s words m) refl
+  where
+    go : (k : ℕ) → refusedBefore s words m ≡ k → begun k s words m .left .scalars ≡ movedOn (begun k s words m .done) (m .scalars)
+    go zero r = words-move s (m .scalars) words 0 m refl
+    go (suc k) r = refl
+
+-- the other scalars stay
+abbrev pub withPc : ℕ → Scalars → Scalars
+withPc x c = scalarsOf (c .w12) (c .w13) (c .w14) (c .w15) x (c .v) (c .s) (c .t)
+
+moved-on-keeps : (n : ℕ) (c : Scalars) → movedOn n c ≡ withPc (movedOn n c .pc) c
+unfolding movedOn
+moved-on-keeps zero c = refl
+moved-on-keeps (suc n) c = ap advanced (moved-on-keeps n c)
+
+run-keeps : (s : Setting) (words : List ℕ) (m : Machine) → runOf s words m .left .scalars ≡ withPc (runOf s words m .left .scalars .pc) (m .scalars)
+run-keeps s words m =
+    let e = run-moves-pc s words m in
+    e ∙ moved-on-keeps (runOf s words m .done) (m .scalars) ∙ ap (λ (x : Scalars). withPc (x .pc) (m .scalars)) (sym e)
+
+-- so whoever has the other scalars needs only PC of what `run` answers
+pub pc-alone : (s : Setting) (words z p zt : List ℕ) (m : Machine) (r : Ran) (n : ℕ) → n ≡ numberOf (r .answer) → ranAs r z p zt ≡ runOf s words m
+    → runAs n (r .done) z p zt (withPc (r .scalars .pc) (m .scalars)) ≡ runOf s words m
+pc-alone s words z p zt m r n q e =
+    let f : r .scalars ≡ runOf s words m .left .scalars = ap (λ (x : Ended Machine). x .left .scalars) e in
+    let k : r .scalars ≡ withPc (r .scalars .pc) (m .scalars) = f ∙ run-keeps s words m ∙ ap (λ (x : Scalars). withPc (x .pc) (m .scalars)) (sym f) in
+    ap (λ (x : ℕ). runAs x (r .done) z p zt (withPc (r .scalars .pc) (m .scalars))) q
+    ∙ ap (λ (c : Scalars). runAs (numberOf (r .answer)) (r .done) z p zt c) (sym k)
+    ∙ e
