@@ -18,7 +18,7 @@ pub struct Tally {
     /// Of the answers 0, those with a yes or with bytes.
     pub yes: u64,
     /// Of the steps that were done, the form.
-    pub forms: [u64; 6],
+    pub forms: [u64; Form::ALL.len()],
 }
 
 impl Tally {
@@ -54,7 +54,7 @@ impl Tally {
         if self.yes > 0 {
             text += &format!("; with a yes or bytes {}", self.yes);
         }
-        if self.forms != [0; 6] {
+        if self.forms != [0; Form::ALL.len()] {
             let forms: Vec<String> = Form::ALL
                 .iter()
                 .zip(self.forms)

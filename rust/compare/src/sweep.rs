@@ -16,7 +16,7 @@ use crate::draw::ALLOWED_FEATURES;
 use crate::threads::spread_over;
 
 /// How many words are read as each form under each allowed feature number.
-pub type Accepted = [[u64; 6]; ALLOWED_FEATURES.len()];
+pub type Accepted = [[u64; Form::ALL.len()]; ALLOWED_FEATURES.len()];
 
 /// What stands in the fields before a word is read.
 const MARK: [u32; ffi::FIELDS] = [0xa5a5_a5a5; ffi::FIELDS];

@@ -7,6 +7,22 @@ use std::time::Duration;
 
 use crate::progress::Progress;
 
+/// A thread at work. It is counted off however it ends: after a panic the
+/// others are stopped, and `thread::scope` tells of it.
+struct AtWork<'a> {
+    working: &'a AtomicU64,
+    stop: &'a AtomicBool,
+}
+
+impl Drop for AtWork<'_> {
+    fn drop(&mut self) {
+        if thread::panicking() {
+            self.stop.store(true, Ordering::Relaxed);
+        }
+        self.working.fetch_sub(1, Ordering::Relaxed);
+    }
+}
+
 /// Does every chunk on one of the threads, until one fails: then those that
 /// were begun are ended, and the first of the chunks that failed is told. As
 /// chunks are begun in their order, that is the same on any number of threads.
@@ -24,6 +40,8 @@ pub fn spread_over<E: Send>(
     let stop = AtomicBool::new(false);
     let failed: Mutex<Option<(u64, E)>> = Mutex::new(None);
     let worker = || {
+        let (working, stop) = (&working, &stop);
+        let _at_work = AtWork { working, stop };
         while !stop.load(Ordering::Relaxed) {
             let chunk = next.fetch_add(1, Ordering::Relaxed);
             if chunk >= chunks {
@@ -38,7 +56,6 @@ pub fn spread_over<E: Send>(
             }
             done.fetch_add(1, Ordering::Relaxed);
         }
-        working.fetch_sub(1, Ordering::Relaxed);
     };
     thread::scope(|scope| {
         for _ in 0..threads {
@@ -72,6 +89,16 @@ mod tests {
             assert_eq!(spread_over(threads, "chunks", 50, 50, work), Ok(()));
             assert_eq!(sum.into_inner(), (1 << 50) - 1);
         }
+    }
+
+    #[test]
+    #[should_panic]
+    fn a_panic_ends_it() {
+        let work = |chunk| -> Result<(), ()> {
+            assert!(chunk != 7, "as if a table were too short");
+            Ok(())
+        };
+        let _ = spread_over(2, "chunks", 100, 100, work);
     }
 
     #[test]
