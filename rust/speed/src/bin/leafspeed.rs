@@ -1,26 +1,31 @@
 //! `leafspeed [ROUNDS]`
 //!
 //! Times stretches of 256 words through the proved library's run and through
-//! the baseline's, in ns a word: each form at each element size (256 copies of
-//! one word), and mixed stretches of all forms. At VL 128, 512 and 2048. Both
-//! sides start from the same machine, and must end alike in every answer and
-//! byte. A round times both, the one that goes first changing from round to
-//! round, and gives a ratio proved/baseline; the table has the median and the
-//! minimum of the rounds' ratios, each side's least time, and the ratio of
-//! these. (A round in which the baseline alone was interrupted makes a minimum
-//! that says nothing: read the median.) The last rows time single steps: words
-//! that are refused, undefined and for a closed flag, and one that is done.
+//! the baseline's, in ns a word: for each form and element size 256 words with
+//! other fields and registers, and mixed stretches of all forms. At VL 128, 512
+//! and 2048. Both sides start from the same machine, and must end alike in
+//! every answer and byte. A round times both, the one that goes first changing
+//! from round to round, and gives a ratio proved/baseline; the table has the
+//! median and the minimum of the rounds' ratios, each side's least time, and
+//! the ratio of these. (A round in which the baseline alone was interrupted
+//! makes a minimum that says nothing: read the median.) The last rows time
+//! single steps: words that are refused, undefined and for a closed flag, and
+//! words that are done, of each form.
 //!
-//! DUP's chosen element of Pn is true at each size and both VLs: where it is
-//! false the baseline's loop, as compiled, is passed over, and its time is that
-//! of a clear. The row "DUP B, false" shows that time all the same, with no bar.
+//! The files are random, and no word of a form's row writes what one of them
+//! reads, so that the sources stay random: DUP's chosen element is true about
+//! every second time. Where it is always false the baseline's loop is passed
+//! over; the row "DUP B, false" shows that, with no bar of its own.
 
 use std::hint::black_box;
 use std::process::ExitCode;
 use std::time::Instant;
 
+use reference::decode::decode;
+use reference::instruction::Form;
 use reference::random::Random;
-use reference::samples::listing_words;
+use reference::samples::{listing_words, matching_word};
+use reference::setting::FULL;
 use speed::fail;
 
 const DEFAULT_ROUNDS: usize = 201;
@@ -68,7 +73,7 @@ fn main() -> ExitCode {
 
 /// Words that are run as one stretch, or stepped one by one.
 struct Case {
-    name: &'static str,
+    name: String,
     words: Vec<u32>,
     stepped: bool,
     /// The bars at VL 128 and at VL 2048; none at another VL, nor where it is
@@ -91,69 +96,80 @@ impl Case {
 
 /// Words that are done, of every form, in no order.
 fn mixed(seed: u64) -> Vec<u32> {
-    let setting = reference::setting::FULL;
     listing_words(seed, 100_000)
-        .filter(|&word| reference::decode::decode(setting, word).is_ok())
+        .filter(|&word| decode(FULL, word).is_ok())
         .take(STRETCH)
         .collect()
 }
 
-/// Sources and destinations differ, so that every step finds the same sources.
+/// Words of a form and size whose sources no one of them writes: the two halves
+/// of a file are apart, and P7 is left to the false elements.
+fn of_form(form: Form, size: u32) -> Vec<u32> {
+    let mut random = Random::new(u64::from(form.number() * 64 + size));
+    let mut words = Vec::new();
+    while words.len() < STRETCH {
+        let word = matching_word(&mut random, form);
+        let fields = decode(FULL, word).expect("the word matches").fields();
+        let apart = match form {
+            Form::Pext1 => fields[3] < 8,
+            Form::Pext2 => fields[3] < 7,
+            Form::Dup => fields[3] < 7 && fields[4] < 7 && fields[5] >= 8,
+            Form::Luti4c | Form::Luti4s | Form::Uqrshrnb => fields[2] < 16 && fields[3] >= 16,
+        };
+        if apart && fields[0] == size {
+            words.push(word);
+        }
+    }
+    words
+}
+
+/// The same with P7, which holds no true element, as Pn.
+fn of_false(words: &[u32]) -> Vec<u32> {
+    words.iter().map(|word| word & !0x1e0 | 7 << 5).collect()
+}
+
 fn cases() -> Vec<Case> {
-    let stretch = |name, words, bars| Case {
-        name,
+    let stretch = |name: &str, words, bars| Case {
+        name: name.to_string(),
         words,
         stepped: false,
         bars,
         answer: 0,
         open: true,
     };
-    let case = |name, word: u32, bar: f64| {
-        let first = if bar.is_infinite() { bar } else { 1.05 };
-        stretch(name, vec![word; STRETCH], [first, bar])
-    };
-    let step = |name, word: u32, answer, open| Case {
+    let step = |name: &str, words, answer, open| Case {
         stepped: true,
         answer,
         open,
-        ..stretch(name, vec![word], [f64::INFINITY; 2])
+        ..stretch(name, words, [f64::INFINITY; 2])
     };
-    let pext1 = |size: u32| 0x2520_7010 | size << 22 | 1 << 8 | 2 << 5 | 3;
-    let pext2 = |size: u32| 0x2520_7410 | size << 22 | 2 << 5 | 3;
-    let dup_of = |tsz: u32, pn: u32| {
-        0x2520_4000 | (tsz >> 3) << 22 | (tsz & 7) << 18 | 1 << 16 | 4 << 10 | pn << 5 | 6
+    let sizes = |form| match form {
+        Form::Pext1 | Form::Pext2 | Form::Dup => &[8, 16, 32, 64][..],
+        Form::Luti4c => &[16, 32],
+        Form::Luti4s => &[16],
+        Form::Uqrshrnb => &[8, 16, 32],
     };
-    let dup = |tsz: u32| dup_of(tsz, 5);
-    let narrow = |tsz: u32, imm3: u32| {
-        0x4520_3800 | (tsz >> 2) << 22 | (tsz & 3) << 19 | imm3 << 16 | 7 << 5 | 9
-    };
-    vec![
-        case("PEXT1 B", pext1(0), 0.4),
-        case("PEXT1 H", pext1(1), 0.4),
-        case("PEXT1 S", pext1(2), 0.4),
-        case("PEXT1 D", pext1(3), 0.4),
-        case("PEXT2 B", pext2(0), 0.4),
-        case("PEXT2 H", pext2(1), 0.4),
-        case("PEXT2 S", pext2(2), 0.4),
-        case("PEXT2 D", pext2(3), 0.4),
-        case("DUP B", dup(0b0001), 0.4),
-        case("DUP H", dup(0b0010), 0.4),
-        case("DUP S", dup(0b0100), 0.4),
-        case("DUP D", dup(0b1000), 0.4),
-        case("DUP B, false", dup_of(0b0001, 7), f64::INFINITY),
-        case("LUTI4C H", 0xc08a_9000 | 1 << 5 | 2 << 2, 0.4),
-        case("LUTI4C S", 0xc08a_a000 | 1 << 16 | 1 << 5 | 2 << 2, 0.4),
-        case("LUTI4S H", 0xc09a_9000 | 1 << 5 | 1 << 4 | 2, 0.4),
-        case("UQRSHRNB B", narrow(0b001, 3), 0.7),
-        case("UQRSHRNB H", narrow(0b010, 5), 0.7),
-        case("UQRSHRNB S", narrow(0b100, 7), 0.7),
-        stretch("mixed, 1", mixed(1), [1.0, 0.6]),
-        stretch("mixed, 2", mixed(2), [1.0, 0.6]),
-        stretch("mixed, 3", mixed(3), [1.0, 0.6]),
-        step("step: undefined", 0x2520_4000, 3, true),
-        step("step: V closed", narrow(0b001, 3), 4, false),
-        step("step: UQRSHRNB B", narrow(0b001, 3), 0, true),
-    ]
+    let letter = |size: u32| ["B", "H", "S", "D"][size.trailing_zeros() as usize - 3];
+    let (mut cases, mut steps) = (Vec::new(), Vec::new());
+    for form in Form::ALL {
+        let bar = if form == Form::Uqrshrnb { 0.7 } else { 0.4 };
+        for &size in sizes(form) {
+            let name = format!("{} {}", form.name(), letter(size));
+            let words = of_form(form, size);
+            steps.push(step(&format!("step: {name}"), words.clone(), 0, true));
+            cases.push(stretch(&name, words, [1.05, bar]));
+        }
+    }
+    let falses = of_false(&of_form(Form::Dup, 8));
+    cases.push(stretch("DUP B, false", falses, [f64::INFINITY; 2]));
+    for seed in 1..=3 {
+        cases.push(stretch(&format!("mixed, {seed}"), mixed(seed), [1.0, 0.6]));
+    }
+    cases.extend(steps);
+    let narrow = of_form(Form::Uqrshrnb, 8);
+    cases.push(step("step: undefined", vec![0x2520_4000; STRETCH], 3, true));
+    cases.push(step("step: V closed", narrow, 4, false));
+    cases
 }
 
 struct Row {
@@ -178,16 +194,9 @@ fn machines() -> (Machine<gighull::Scalars>, Machine<baseline::Scalars>) {
             .collect::<Vec<u8>>()
     };
     let (z, mut p, zt) = (bytes(8192), bytes(512), bytes(64));
-    // P10 is the counter: elements of 8 bits, true from a count in the first
-    // portions on at VL 128, and inverted.
-    p[320..322].copy_from_slice(&0x8033u16.to_le_bytes());
+    // P7 holds no true element.
+    p[224..256].fill(0);
     let w = [1, 0x8000_0003, 2, 3];
-    // W13 is 3 modulo every number of elements above 2, and 1 modulo 2. So DUP
-    // chooses these bits of P5 (B, H, S; D at VL 128, at VL 2048), or of P7.
-    for bit in [3, 6, 12, 8, 24] {
-        p[160 + bit / 8] |= 1 << (bit % 8);
-    }
-    p[224] &= !(1 << 3);
     let proved = Machine {
         z: z.clone(),
         p: p.clone(),
@@ -229,17 +238,33 @@ fn proved_run(machine: &mut Machine<gighull::Scalars>, vl: u32, words: &[u32]) -
     (number, done)
 }
 
+/// The last word's number, and how many words were done.
+fn all(words: &[u32], mut step: impl FnMut(u32) -> u32) -> (u32, usize) {
+    let (mut number, mut done) = (0, 0);
+    for &word in words {
+        number = step(word);
+        done += usize::from(number == 0);
+    }
+    (number, done)
+}
+
 fn proved_step(machine: &mut Machine<gighull::Scalars>, vl: u32, words: &[u32]) -> (u32, usize) {
     let Machine { z, p, zt, scalars } = machine;
-    let number = gighull::step(z, p, zt, scalars, vl, FEATURES, words[0]);
-    (number, usize::from(number == 0))
+    all(words, |word| {
+        gighull::step(z, p, zt, scalars, vl, FEATURES, word)
+    })
 }
 
 fn plain_run(machine: &mut Machine<baseline::Scalars>, vl: u32, words: &[u32]) -> (u32, usize) {
     let Machine { z, p, zt, scalars } = machine;
     let mut files = baseline::Files { z, p, zt0: zt };
     let features = FEATURES;
-    let outcome = baseline::run(baseline::Setting { vl, features }, words, &mut files, scalars);
+    let outcome = baseline::run(
+        baseline::Setting { vl, features },
+        words,
+        &mut files,
+        scalars,
+    );
     (outcome.number, outcome.done)
 }
 
@@ -248,8 +273,9 @@ fn plain_step(machine: &mut Machine<baseline::Scalars>, vl: u32, words: &[u32]) 
     let mut files = baseline::Files { z, p, zt0: zt };
     let features = FEATURES;
     let setting = baseline::Setting { vl, features };
-    let number = baseline::step(setting, words[0], &mut files, scalars);
-    (number, usize::from(number == 0))
+    all(words, |word| {
+        baseline::step(setting, word, &mut files, scalars)
+    })
 }
 
 /// One side: how it runs, its machine, and how often it answered otherwise.
@@ -277,7 +303,11 @@ impl<Scalars> Side<Scalars> {
 fn measure(case: &Case, vl: u32, rounds: usize) -> Result<Row, String> {
     let (proved, plain) = machines();
     let mut proved = Side {
-        run: if case.stepped { proved_step } else { proved_run },
+        run: if case.stepped {
+            proved_step
+        } else {
+            proved_run
+        },
         machine: proved,
         wrong: 0,
     };
