@@ -1,4 +1,4 @@
-//! `leafspeed [ROUNDS]`
+//! `leafspeed [ROUNDS [cleared]]`
 //!
 //! Times stretches of 256 words through the proved library's run and through
 //! the baseline's, in ns a word: for each form and element size 256 words with
@@ -16,6 +16,10 @@
 //! reads, so that the sources stay random: DUP's chosen element is true about
 //! every second time. Where it is always false the baseline's loop is passed
 //! over; the row "DUP B, false" shows that, with no bar of its own.
+//!
+//! With `cleared` every file is zeros at the start, as for a long session. Then
+//! no element of a predicate is true, so that PEXT and DUP only clear; the bars
+//! of the forms do not stand there.
 
 use std::hint::black_box;
 use std::process::ExitCode;
@@ -36,18 +40,25 @@ const STRETCH: usize = 256;
 const NANOSECONDS: f64 = 200_000.0;
 
 fn main() -> ExitCode {
-    let rounds = match std::env::args().nth(1).map(|r| r.parse::<usize>()) {
-        None => DEFAULT_ROUNDS,
-        Some(Ok(rounds)) if rounds > 0 => rounds,
-        Some(_) => return fail("leafspeed", "ROUNDS is not a number above 0", 2),
+    let arguments: Vec<String> = std::env::args().skip(1).collect();
+    let arguments: Vec<&str> = arguments.iter().map(String::as_str).collect();
+    let (rounds, files) = match &arguments[..] {
+        [] => (Ok(DEFAULT_ROUNDS), Files::Random),
+        [rounds] => (rounds.parse(), Files::Random),
+        [rounds, "cleared"] => (rounds.parse(), Files::Cleared),
+        _ => return fail("leafspeed", "usage: leafspeed [ROUNDS [cleared]]", 2),
     };
-    println!("{rounds} rounds; ratio proved/baseline; ns a word");
+    let rounds = match rounds {
+        Ok(rounds) if rounds > 0 => rounds,
+        _ => return fail("leafspeed", "ROUNDS is not a number above 0", 2),
+    };
+    println!("{rounds} rounds; {files:?} files; ratio proved/baseline; ns a word");
     println!("| form | VL | median | minimum | proved | baseline | least/least | bar |");
     println!("|---|---|---|---|---|---|---|---|");
     let mut over = 0;
     for vl in [128, 512, 2048] {
-        for case in cases() {
-            match measure(&case, vl, rounds) {
+        for case in cases(files) {
+            match measure(&case, vl, rounds, files) {
                 Ok(row) => {
                     let bar = case.bar(vl);
                     let missed = row.median > bar;
@@ -69,6 +80,13 @@ fn main() -> ExitCode {
     }
     println!("machines equal after every case; {over} over their bar");
     ExitCode::SUCCESS
+}
+
+/// What the machine's files hold at the start.
+#[derive(Clone, Copy, Debug, PartialEq, Eq)]
+enum Files {
+    Random,
+    Cleared,
 }
 
 /// Words that are run as one stretch, or stepped one by one.
@@ -128,7 +146,7 @@ fn of_false(words: &[u32]) -> Vec<u32> {
     words.iter().map(|word| word & !0x1e0 | 7 << 5).collect()
 }
 
-fn cases() -> Vec<Case> {
+fn cases(files: Files) -> Vec<Case> {
     let stretch = |name: &str, words, bars| Case {
         name: name.to_string(),
         words,
@@ -152,12 +170,16 @@ fn cases() -> Vec<Case> {
     let letter = |size: u32| ["B", "H", "S", "D"][size.trailing_zeros() as usize - 3];
     let (mut cases, mut steps) = (Vec::new(), Vec::new());
     for form in Form::ALL {
-        let bar = if form == Form::Uqrshrnb { 0.7 } else { 0.4 };
+        let bars = match form {
+            _ if files == Files::Cleared => [f64::INFINITY; 2],
+            Form::Uqrshrnb => [1.05, 0.7],
+            _ => [1.05, 0.4],
+        };
         for &size in sizes(form) {
             let name = format!("{} {}", form.name(), letter(size));
             let words = of_form(form, size);
             steps.push(step(&format!("step: {name}"), words.clone(), 0, true));
-            cases.push(stretch(&name, words, [1.05, bar]));
+            cases.push(stretch(&name, words, bars));
         }
     }
     let falses = of_false(&of_form(Form::Dup, 8));
@@ -186,12 +208,11 @@ struct Machine<Scalars> {
     scalars: Scalars,
 }
 
-fn machines() -> (Machine<gighull::Scalars>, Machine<baseline::Scalars>) {
+fn machines(files: Files) -> (Machine<gighull::Scalars>, Machine<baseline::Scalars>) {
     let mut random = Random::new(5);
-    let mut bytes = |count: usize| {
-        (0..count)
-            .map(|_| random.next_u32() as u8)
-            .collect::<Vec<u8>>()
+    let mut bytes = |count: usize| match files {
+        Files::Random => (0..count).map(|_| random.next_u32() as u8).collect(),
+        Files::Cleared => vec![0; count],
     };
     let (z, mut p, zt) = (bytes(8192), bytes(512), bytes(64));
     // P7 holds no true element.
@@ -300,8 +321,8 @@ impl<Scalars> Side<Scalars> {
     }
 }
 
-fn measure(case: &Case, vl: u32, rounds: usize) -> Result<Row, String> {
-    let (proved, plain) = machines();
+fn measure(case: &Case, vl: u32, rounds: usize, files: Files) -> Result<Row, String> {
+    let (proved, plain) = machines(files);
     let mut proved = Side {
         run: if case.stepped {
             proved_step
