@@ -231,7 +231,7 @@ fn c_and_rust_find_the_same() {
         "vector answers 64:",
         "predicate answers 8:",
         "lines answers 13, 60:",
-        "run answers 3 after 3 z",
+        "run answers 3 after 4 z",
         "run of nothing answers 0 after 0 z",
         "\nconflict answers 0: 1\n",
         "\nno conflict answers 0: 0\n",
