@@ -1,4 +1,3 @@
 pub mod Numbers
 pub mod Fields
 pub mod Buffers
-pub mod Claims

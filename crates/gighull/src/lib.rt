@@ -1,6 +1,5 @@
 // The C interface: numbers, slices (a pointer, then a length) and the scalar record cross it. include/gighull.h declares it for C.
 // A function answers document 01's number, and leaves its values in what is lent to it.
-mod fields;
 mod replies;
 
 ghost use mathlib.Core.Path.{_≡_};
@@ -17,7 +16,6 @@ ghost use Rattle.console.specs.Parts.{vectorOf, predicateOf};
 ghost use Rattle.gighull.specs.Numbers.{settingOf, numberIn, yesIn};
 ghost use Rattle.gighull.specs.Fields.{readInto, refusedOf, writeOf, writtenAs};
 ghost use Rattle.gighull.specs.Buffers.{fitting, listedAs};
-ghost use Rattle.gighull.specs.Claims.{NumbersRead};
 use encoding::Decoded;
 use encoding::Encoded;
 use machine::Scalars;
@@ -121,7 +119,7 @@ pub extern "C" fn gighull_decode(vl: u32, features: u32, word: u32, fields: &mut
     let decoded = decoder::decode(Setting { vl, features }, word);
     match decoded {
         Decoded::Fields(instruction) => {
-            fields::put(instruction, fields);
+            numbers::put(instruction, fields);
             0
         }
         Decoded::Refused(answer) => setting::number(answer),
@@ -144,7 +142,7 @@ fn unwritten(setting: Setting, answer: Answer) -> Encoded
 fn written(setting: Setting, fields: &[u32]) -> Encoded
     ensures { λ r. ⌜ encodedAs r ≡ writeOf setting (now (fields .entry)) ⌝ }
 {
-    let read = fields::instruction(fields);
+    let read = numbers::instruction(fields);
     match read {
         Decoded::Fields(instruction) => encoder::encode(setting, instruction),
         Decoded::Refused(answer) => unwritten(setting, answer),
@@ -197,8 +195,3 @@ pub extern "C" fn gighull_lines(input: &[u8], out: &mut [u8], written: &mut usiz
     *written = listed.written;
     listed.read
 }
-
-// An instruction's seven numbers are read back as that instruction.
-pub fn claims()
-    ensures { λ _. ⌜ NumbersRead ⌝ }
-{}

@@ -1,10 +1,10 @@
 -- `put` meets its contract: seven stores fill a buffer of seven.
 use lib.ListN.{length-set}
 use native.Mathlib.Omega.{arith}
-use Rattle.gighull.proofs.Cases.{other-length, all-seven}
+use Rattle.numbers.proofs.Cases.{other-length, all-seven}
 use borrow.Author.Needs.{needs}
-use Rattle.gighull.proofs.fields.put.Statement.{statement}
-use Rattle.gighull.proofs.fields.put.Tie as tie
+use Rattle.numbers.proofs.put.Statement.{statement}
+use Rattle.numbers.proofs.put.Tie as tie
 
 returns : tie.Need-returns
 returns c = other-length (c .before .before .args .instruction) (c .before .before .args .out .now) (c .if1 .taken)

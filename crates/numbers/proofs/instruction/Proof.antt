@@ -1,8 +1,8 @@
 -- `instruction` meets its contract: seven numbers are read in order.
-use Rattle.gighull.proofs.Cases.{not-seven, of-seven}
+use Rattle.numbers.proofs.Cases.{not-seven, of-seven}
 use borrow.Author.Needs.{needs}
-use Rattle.gighull.proofs.fields.instruction.Statement.{statement}
-use Rattle.gighull.proofs.fields.instruction.Tie as tie
+use Rattle.numbers.proofs.instruction.Statement.{statement}
+use Rattle.numbers.proofs.instruction.Tie as tie
 
 returns : tie.Need-returns
 returns c = not-seven _ (c .if1 .taken)

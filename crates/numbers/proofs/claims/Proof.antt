@@ -1,10 +1,10 @@
 -- `claims` meets its contract: of each form by computing.
 use mathlib.Core.Path.{refl}
 use Rattle.encoding.specs.declared.Instruction.the-variants.{Pext1, Pext2, Dup, Luti4c, Luti4s, Uqrshrnb}
-use Rattle.gighull.specs.Fields.{instructionOf}
-use Rattle.gighull.specs.Claims.{NumbersRead}
-use Rattle.gighull.proofs.claims.Statement.{statement}
-use Rattle.gighull.proofs.claims.Tie as tie
+use Rattle.numbers.specs.Fields.{instructionOf}
+use Rattle.numbers.specs.Claims.{NumbersRead}
+use Rattle.numbers.proofs.claims.Statement.{statement}
+use Rattle.numbers.proofs.claims.Tie as tie
 
 numbers-read : NumbersRead
 unfolding instructionOf

@@ -1,6 +1,6 @@
 -- `luti4` meets its contract: in each branch it is known whether the layout is the strided one.
-use Rattle.gighull.proofs.fields.luti4.Statement.{statement}
-use Rattle.gighull.proofs.fields.luti4.Tie as tie
+use Rattle.numbers.proofs.luti4.Statement.{statement}
+use Rattle.numbers.proofs.luti4.Tie as tie
 
 returns : tie.Need-returns
 returns c = rw (c .if1 .taken)

@@ -1,7 +1,7 @@
 -- `numbers` meets its contract: in each arm the instruction is known.
 use borrow.Author.Needs.{needs}
-use Rattle.gighull.proofs.fields.numbers.Statement.{statement}
-use Rattle.gighull.proofs.fields.numbers.Tie as tie
+use Rattle.numbers.proofs.numbers.Statement.{statement}
+use Rattle.numbers.proofs.numbers.Tie as tie
 
 enum-known-instruction : tie.Need-enum-known-instruction
 enum-known-instruction c = search needs

@@ -1,10 +1,11 @@
-// An instruction as seven numbers, and back.
+// An instruction as seven numbers, and back. A form that is not in the table, and a list of another length, are out of range.
 ghost use mathlib.Core.Path.{_≡_};
 ghost use Rattle.setting.specs.Numbers.{accept};
 ghost use Rattle.element.specs.Size.{pick};
 ghost use Rattle.encoding.specs.declared.Instruction.the-variants.{Luti4c, Luti4s};
 ghost use Rattle.encoding.specs.Decode.{decodedAs};
-ghost use Rattle.gighull.specs.Fields.{numbersOf, readInto, instructionAt, instructionOf};
+ghost use Rattle.numbers.specs.Fields.{numbersOf, numbersInto, instructionAt, instructionOf};
+ghost use Rattle.numbers.specs.Claims.{NumbersRead};
 use encoding::Decoded;
 use encoding::Instruction;
 use setting::Answer;
@@ -45,8 +46,8 @@ fn numbers(instruction: Instruction) -> [u32; 7]
 }
 
 // Into a buffer of seven; another stays as it was.
-pub(crate) fn put(instruction: Instruction, out: &mut [u32])
-    ensures { λ _. ⌜ now (out .exit) ≡ readInto (accept instruction) (now (out .entry)) ⌝ }
+pub fn put(instruction: Instruction, out: &mut [u32])
+    ensures { λ _. ⌜ now (out .exit) ≡ numbersInto instruction (now (out .entry)) ⌝ }
 {
     if out.len() != 7 {
         return;
@@ -107,7 +108,7 @@ fn named(form: u32, a: u32, b: u32, c: u32, d: u32, e: u32, f: u32) -> Decoded
     }
 }
 
-pub(crate) fn instruction(fields: &[u32]) -> Decoded
+pub fn instruction(fields: &[u32]) -> Decoded
     ensures { λ r. ⌜ decodedAs r ≡ instructionOf (now (fields .entry)) ⌝ }
 {
     if fields.len() != 7 {
@@ -123,3 +124,8 @@ pub(crate) fn instruction(fields: &[u32]) -> Decoded
         fields[6],
     )
 }
+
+// An instruction's seven numbers are read back as that instruction.
+pub fn claims()
+    ensures { λ _. ⌜ NumbersRead ⌝ }
+{}

@@ -2,8 +2,8 @@
 use mathlib.Core.Path.{_∙_}
 use borrow.Author.Needs.{needs}
 use borrow.Author.Tests.{ne-eqb}
-use Rattle.gighull.proofs.fields.named.Statement.{statement}
-use Rattle.gighull.proofs.fields.named.Tie as tie
+use Rattle.numbers.proofs.named.Statement.{statement}
+use Rattle.numbers.proofs.named.Tie as tie
 
 luti4-requires : tie.Need-luti4-requires
 luti4-requires c κs = search needs

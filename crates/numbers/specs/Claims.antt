@@ -2,7 +2,7 @@
 use mathlib.Core.Path.{_≡_}
 use Rattle.setting.specs.Numbers.{accept}
 use Rattle.encoding.specs.declared.Instruction.{Instruction}
-use Rattle.gighull.specs.Fields.{numbersOf, instructionOf}
+use Rattle.numbers.specs.Fields.{numbersOf, instructionOf}
 
 abbrev pub NumbersRead : Type 0
 NumbersRead = (i : Instruction) → instructionOf (numbersOf i) ≡ accept i

@@ -1,0 +1,44 @@
+-- Seven numbers: what the definitions are in each case of a list's length, and that seven stores fill a list of seven.
+use mathlib.Core.Path.{_≡_, refl, sym, ap, _∙_}
+use mathlib.Core.List.{List}
+use Prim.Native.Nat.{ℕ}
+use lib.ListN.{length, getD, set}
+use borrow.Author.Tests.{eq-eqb, ne-eqb}
+use Rattle.setting.specs.Numbers.{Outcome, refuse}
+use Rattle.encoding.specs.declared.Instruction.{Instruction}
+use Rattle.encoding.specs.declared.Instruction.the-variants.{Pext1, Pext2, Dup, Luti4c, Luti4s, Uqrshrnb}
+use Rattle.element.proofs.Spelled.{spelled}
+use Rattle.numbers.specs.Fields.{numbersOf, numbersInto, instructionAt, instructionOf}
+
+-- ---- reading
+seven : (i : Instruction) → length (numbersOf i) ≡ 7
+seven (Pext1 size imm2 counter pd) = refl
+seven (Pext2 size i1 counter pd) = refl
+seven (Dup size offset index pg pn pd) = refl
+seven (Luti4c size i1 zn zd) = refl
+seven (Luti4s size i1 zn zd) = refl
+seven (Uqrshrnb size shift zn zd) = refl
+
+-- seven stores fill a list of seven
+stored : (out n : List ℕ) → length out ≡ 7 → length n ≡ 7
+    → set (set (set (set (set (set (set out 0 (getD n 0 0)) 1 (getD n 1 0)) 2 (getD n 2 0)) 3 (getD n 3 0)) 4 (getD n 4 0)) 5 (getD n 5 0)) 6 (getD n 6 0) ≡ n
+stored out n l m =
+    ap (λ (o : List ℕ). set (set (set (set (set (set (set o 0 (getD n 0 0)) 1 (getD n 1 0)) 2 (getD n 2 0)) 3 (getD n 3 0)) 4 (getD n 4 0)) 5 (getD n 5 0)) 6 (getD n 6 0)) (spelled 7 out l) ∙ sym (spelled 7 n m)
+
+module _ (i : Instruction) (out : List ℕ) where
+  pub other-length : (length out ≡ 7 → ⊥) → out ≡ numbersInto i out
+  other-length h = rw (ne-eqb (length out) 7 h)
+
+  pub all-seven : (n : List ℕ) → length out ≡ 7 → n ≡ numbersOf i
+      → set (set (set (set (set (set (set out 0 (getD n 0 0)) 1 (getD n 1 0)) 2 (getD n 2 0)) 3 (getD n 3 0)) 4 (getD n 4 0)) 5 (getD n 5 0)) 6 (getD n 6 0) ≡ numbersInto i out
+  all-seven n l e = rw (eq-eqb (length out) 7 l) (stored out n l (ap length e ∙ seven i) ∙ e)
+
+-- ---- writing
+module _ (xs : List ℕ) where
+  pub not-seven : (length xs ≡ 7 → ⊥) → refuse 9 ≡ instructionOf xs
+  unfolding instructionOf
+  not-seven h = rw (ne-eqb (length xs) 7 h)
+
+  pub of-seven : (o : Outcome Instruction) → length xs ≡ 7 → o ≡ instructionAt (getD xs 0 0) (getD xs 1 0) (getD xs 2 0) (getD xs 3 0) (getD xs 4 0) (getD xs 5 0) (getD xs 6 0) → o ≡ instructionOf xs
+  unfolding instructionOf
+  of-seven o l e = rw (eq-eqb (length xs) 7 l) e
