@@ -5,8 +5,8 @@
 // question has, and writes the answer.
 mod forms;
 mod generator;
+mod lines;
 mod machines;
-mod numbers;
 mod runs;
 mod steps;
 mod stretches;
@@ -16,7 +16,7 @@ use setting::Setting;
 // One question and its answer; false where the input ends, or has a kind that no module answers.
 fn answer_next() -> bool {
     let mut question = [0u32; 9];
-    if !numbers::read(&mut question, 9) {
+    if !lines::read(&mut question, 9) {
         return false;
     }
     let setting = Setting {

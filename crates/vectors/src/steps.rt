@@ -2,15 +2,15 @@
 //
 // A question: kind, VL, features, word; then the sixteen numbers that the machine is made from (`machines`). An answer:
 // what `machines` tells, without how many words were done.
+use crate::lines;
 use crate::machines;
 use crate::machines::Asked;
 use crate::machines::Task;
-use crate::numbers;
 use setting::Setting;
 
 pub(crate) fn answer(setting: Setting, first: &[u32; 9]) -> bool {
     let mut rest = [0u32; 11];
-    if !numbers::read(&mut rest, 11) {
+    if !lines::read(&mut rest, 11) {
         return false;
     }
     let asked = Asked {
@@ -19,5 +19,5 @@ pub(crate) fn answer(setting: Setting, first: &[u32; 9]) -> bool {
         task: Task::Step(first[3]),
     };
     let line = machines::answer(asked, &[]);
-    numbers::begin(line[0]) && numbers::write(&line[2..])
+    lines::begin(line[0]) && lines::write(&line[2..])
 }

@@ -3,7 +3,7 @@
 // Six values follow kind, VL and features. Kind 8: the two words, and zeros. An answer is eight numbers: document 01's
 // number, 1 for yes or 0, and zeros. Kind 10: how many words, how many entries, and zeros; then the words, and the
 // order's entries. An answer is two numbers: document 01's, and 1 for yes or 0.
-use crate::numbers;
+use crate::lines;
 use setting::Setting;
 use stretch::Reply;
 
@@ -17,18 +17,18 @@ fn told(reply: Reply) -> [u32; 2] {
 
 pub(crate) fn conflict(setting: Setting, first: &[u32; 9]) -> bool {
     let reply = told(stretch::conflict(setting, first[3], first[4]));
-    numbers::write(&[reply[0], reply[1], 0, 0, 0, 0, 0, 0])
+    lines::write(&[reply[0], reply[1], 0, 0, 0, 0, 0, 0])
 }
 
 // False also where a list is longer than its buffer: no question has so long a one.
 pub(crate) fn permission(setting: Setting, first: &[u32; 9]) -> bool {
     let mut words = [0u32; 520];
     let mut order = [0u32; 520];
-    if !numbers::read(&mut words, first[3]) || !numbers::read(&mut order, first[4]) {
+    if !lines::read(&mut words, first[3]) || !lines::read(&mut order, first[4]) {
         return false;
     }
-    let words = numbers::prefix(&words, first[3]);
-    let order = numbers::prefix(&order, first[4]);
+    let words = lines::prefix(&words, first[3]);
+    let order = lines::prefix(&order, first[4]);
     let reply = told(stretch::permitted(setting, words, order));
-    numbers::write(&reply)
+    lines::write(&reply)
 }

@@ -2,8 +2,8 @@
 use native.Mathlib.Omega.{arith}
 use lib.ListN.{length-take}
 use borrow.Author.Needs.{needs}
-use Rattle.vectors.proofs.numbers.prefix.Statement.{statement}
-use Rattle.vectors.proofs.numbers.prefix.Tie as tie
+use Rattle.vectors.proofs.lines.prefix.Statement.{statement}
+use Rattle.vectors.proofs.lines.prefix.Tie as tie
 
 returns : tie.Need-returns
 returns c = search needs

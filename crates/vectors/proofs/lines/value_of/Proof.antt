@@ -1,8 +1,8 @@
 -- `value_of` is safe and ends: i is at most 8, and a digit is added to less than 2^28 times 16.
 use Prim.Native.Nat.{_≤_, _-_}
 use borrow.Author.Needs.{needs}
-use Rattle.vectors.proofs.numbers.value_of.Statement.{statement}
-use Rattle.vectors.proofs.numbers.value_of.Tie as tie
+use Rattle.vectors.proofs.lines.value_of.Statement.{statement}
+use Rattle.vectors.proofs.lines.value_of.Tie as tie
 
 abbrev Inv-loop : tie.InvT-loop
 Inv-loop text value₀ i₀ value i = i ≤ 8

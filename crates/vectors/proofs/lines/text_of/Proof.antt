@@ -1,8 +1,8 @@
 -- `text_of` is safe and ends: i is at most 8, which the text of nine bytes has.
 use Prim.Native.Nat.{_≤_, _-_}
 use borrow.Author.Needs.{needs}
-use Rattle.vectors.proofs.numbers.text_of.Statement.{statement}
-use Rattle.vectors.proofs.numbers.text_of.Tie as tie
+use Rattle.vectors.proofs.lines.text_of.Statement.{statement}
+use Rattle.vectors.proofs.lines.text_of.Tie as tie
 
 abbrev Inv-loop : tie.InvT-loop
 Inv-loop value after text₀ rest₀ i₀ text rest i = i ≤ 8

@@ -2,8 +2,8 @@
 use Prim.Native.Nat.{_≤_, _-_}
 use lib.ListN.{length}
 use borrow.Author.Needs.{needs}
-use Rattle.vectors.proofs.numbers.write.Statement.{statement}
-use Rattle.vectors.proofs.numbers.write.Tie as tie
+use Rattle.vectors.proofs.lines.write.Statement.{statement}
+use Rattle.vectors.proofs.lines.write.Tie as tie
 
 abbrev Inv-loop : tie.InvT-loop
 Inv-loop line i₀ i = i ≤ length line

@@ -4,8 +4,8 @@ use Prim.Native.Nat.{_≤_, _-_}
 use native.Mathlib.Omega.{arith}
 use lib.ListN.{length, length-set}
 use borrow.Author.Needs.{needs}
-use Rattle.vectors.proofs.numbers.read.Statement.{statement}
-use Rattle.vectors.proofs.numbers.read.Tie as tie
+use Rattle.vectors.proofs.lines.read.Statement.{statement}
+use Rattle.vectors.proofs.lines.read.Tie as tie
 
 abbrev Inv-loop : tie.InvT-loop
 Inv-loop places₀ n i₀ places i = (i ≤ n) × (length places ≡ length places₀)
