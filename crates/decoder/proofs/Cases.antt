@@ -1,10 +1,11 @@
 -- What `decodeOf` is in each case that the code meets, over plain numbers: what the functions' proofs cite.
 use mathlib.Core.Path.{_≡_, refl, sym, ap, _∙_}
-use mathlib.Core.Bool.{Bool, true, false, _&&_, and-true, and-assoc}
+use mathlib.Core.Bool.{Bool, true, false, not, _&&_, _||_, and-true, and-assoc}
 use mathlib.Core.List.{List, [], map}
-use Prim.Native.Nat.{ℕ, suc, _^_, _<_, _≤_}
+use Prim.Native.Nat.{ℕ, zero, suc, _+_, _*_, _^_, _<_}
+use native.Mathlib.Nat.{zero-add, zero-mul, suc-mul}
 use native.Mathlib.Omega.{arith}
-use lib.Dec.{T, eqb, eqb→eq, lit<}
+use lib.Dec.{T, eqb, eqb→eq}
 use lib.Bits.{bitAnd}
 use lib.ListN.{getD, List·getD-map}
 use borrow.Author.Tests.{eq-eqb, ne-eqb}
@@ -13,15 +14,15 @@ use Rattle.setting.specs.Numbers.{Outcome, accept, refuse}
 use Rattle.setting.specs.declared.Setting.{Setting}
 use Rattle.element.specs.Size.{pick}
 use Rattle.element.proofs.Below.{below}
-use Rattle.element.proofs.Tests.{both-yes}
 use Rattle.encoding.specs.Layout.{Piece, width, fieldsOf, matches}
 use Rattle.encoding.specs.Rows.{Row, rows, rowMatches, pext1, pext2, dup, luti4c, luti4s, uqrshrnb}
 use Rattle.encoding.specs.Forms.{placeOf, layoutAt, placeFirst, placeIn}
-use Rattle.encoding.specs.Decode.{firstOf, decodeOf}
+use Rattle.encoding.specs.Decode.{firstOf, readAt, decodeOf}
+use Rattle.decoder.specs.Operands.{four, operandsIn}
 use Rattle.encoding.specs.declared.Instruction.{Instruction}
 use Rattle.encoding.proofs.LayoutLaws.{sound, maskOf, fixedOf, matches-masked, masked-matches}
 use Rattle.encoding.proofs.Apart.{decide, apart, not-both}
-use Rattle.encoding.proofs.Choice.{readAt, read-past, first-is-read, first-matches}
+use Rattle.encoding.proofs.Choice.{first-is-read}
 
 -- ---- a layout by the tables of masks and fixed bits
 abbrev layouts : List (List Piece)
@@ -98,13 +99,6 @@ unfolding placeFirst
 place-of-first f w = simp place-pick (sym (places (rowMatches pext1 f w) (rowMatches pext2 f w) (rowMatches dup f w) (rowMatches luti4c f w) (rowMatches luti4s f w) (rowMatches uqrshrnb f w)))
 
 -- ---- decode
-module _ (f w k : ℕ) (e : k ≡ placeFirst rows f w) where
-  pub read-row : readAt rows k w ≡ firstOf rows f w
-  read-row = ap (λ (j : ℕ). readAt rows j w) e ∙ sym (first-is-read rows f w)
-
-  pub read-no-row : 6 ≤ k → refuse 3 ≡ firstOf rows f w
-  read-no-row h = sym (read-past rows k w h) ∙ read-row
-
 module _ (s : Setting) (w : ℕ) where
   pub decode-not-allowed : allowedOf s ≡ false → refuse 1 ≡ decodeOf s w
   unfolding decodeOf
@@ -113,16 +107,23 @@ module _ (s : Setting) (w : ℕ) where
   module _ (a : allowedOf s ≡ true) (k : ℕ) (e : k ≡ placeFirst rows (s .features) w) where
     pub decode-row : readAt rows k w ≡ decodeOf s w
     unfolding decodeOf
-    decode-row = simp a (read-row (s .features) w k e)
-
-    pub decode-no-row : 6 ≤ k → refuse 3 ≡ decodeOf s w
-    unfolding decodeOf
-    decode-no-row h = simp a (read-no-row (s .features) w k e h)
+    decode-row = simp a (ap (λ (j : ℕ). readAt rows j w) e ∙ sym (first-is-read rows (s .features) w))
 
     pub form-place : k ≡ placeIn (decodeOf s w)
     unfolding decodeOf
     form-place = simp a (e ∙ place-of-first (s .features) w)
 
--- where DUP's row is the first that matches, its field condition holds
-pub dup-condition : (f w : ℕ) → 2 ≡ placeFirst rows f w → dup .condition (fieldsOf (dup .layout) w) ≡ true
-dup-condition f w e = both-yes (matches (dup .layout) w && dup .features f) (dup .condition (fieldsOf (dup .layout) w)) (first-matches rows 2 f w (lit< tt) e) .1
+-- two fields that are not both 0 are no 0 one behind the other
+pub not-both-zero : (n a b : ℕ) → (not (eqb a 0) || not (eqb b 0)) ≡ not (eqb (a * suc n + b) 0)
+not-both-zero n zero b = rw (zero-mul (suc n), zero-add b)
+not-both-zero n (suc a) b = rw (ne-eqb (suc a) 0 (λ e. omega arith), ne-eqb (suc a * suc n + b) 0 (λ e. omega (arith, suc-mul a (suc n))))
+
+-- no other row than the five has four fields
+pub no-operands : (k w : ℕ) → (k ≡ 0 → ⊥) → (k ≡ 1 → ⊥) → (k ≡ 3 → ⊥) → (k ≡ 4 → ⊥) → (k ≡ 5 → ⊥) → operandsIn (readAt rows k w) ≡ four 0 0 0 0
+no-operands zero w a b c d e = absurd (a refl)
+no-operands (suc zero) w a b c d e = absurd (b refl)
+no-operands (suc (suc zero)) w a b c d e = refl
+no-operands (suc (suc (suc zero))) w a b c d e = absurd (c refl)
+no-operands (suc (suc (suc (suc zero)))) w a b c d e = absurd (d refl)
+no-operands (suc (suc (suc (suc (suc zero))))) w a b c d e = absurd (e refl)
+no-operands (suc (suc (suc (suc (suc (suc k)))))) w a b c d e = refl

@@ -1,11 +1,13 @@
 // The fields of a word whose row is known.
 ghost use mathlib.Core.Path.{_≡_};
-ghost use mathlib.Core.Bool.{true};
 ghost use Prim.Native.Nat.{_+_, _*_, _/_, _%_, _^_, _<_};
-ghost use Rattle.encoding.specs.Layout.{fieldsOf};
+ghost use Rattle.setting.specs.Numbers.{accept};
 ghost use Rattle.encoding.specs.Instructions.{narrowSize};
-ghost use Rattle.encoding.specs.Rows.{pext1 as pext1Row, pext2 as pext2Row, dup as dupRow, luti4c as luti4cRow, luti4s as luti4sRow, uqrshrnb as uqrshrnbRow};
-use encoding::Instruction;
+ghost use Rattle.encoding.specs.Rows.{rows};
+ghost use Rattle.encoding.specs.Decode.{readAt};
+ghost use Rattle.decoder.specs.Operands.{operandsIn, dupAs};
+use crate::DupOperands;
+use crate::Operands;
 
 // The element size of a size field of two bits.
 fn element_size(raw: u32) -> u32
@@ -38,40 +40,48 @@ fn narrow_size(tsz: u32) -> u32
     if tsz < 4 { 16 } else { 32 }
 }
 
-pub(crate) fn pext1(word: u32) -> Instruction
-    ensures { λ r. ⌜ r ≡ pext1Row .reading (fieldsOf (pext1Row .layout) word) ⌝ }
+pub(crate) fn pext1(word: u32) -> Operands
+    ensures { λ r. ⌜ r ≡ operandsIn (readAt rows 0 word) ⌝ }
 {
     let size = element_size(word / 0x400000 % 4);
-    Instruction::Pext1 {
+    Operands {
         size,
-        imm2: word / 0x100 % 4,
-        counter: 8 + word / 32 % 8,
-        pd: word % 16,
+        immediate: word / 0x100 % 4,
+        source: 8 + word / 32 % 8,
+        destination: word % 16,
     }
 }
 
-pub(crate) fn pext2(word: u32) -> Instruction
-    ensures { λ r. ⌜ r ≡ pext2Row .reading (fieldsOf (pext2Row .layout) word) ⌝ }
+pub(crate) fn pext2(word: u32) -> Operands
+    ensures { λ r. ⌜ r ≡ operandsIn (readAt rows 1 word) ⌝ }
 {
     let size = element_size(word / 0x400000 % 4);
-    Instruction::Pext2 {
+    Operands {
         size,
-        i1: word / 0x100 % 2,
-        counter: 8 + word / 32 % 8,
-        pd: word % 16,
+        immediate: word / 0x100 % 2,
+        source: 8 + word / 32 % 8,
+        destination: word % 16,
     }
 }
 
-// The size that tszh:tszl says is not 0, so neither is the offset's divisor.
-pub(crate) fn dup(word: u32) -> Instruction
-    requires { ⌜ dupRow .condition (fieldsOf (dupRow .layout) word) ≡ true ⌝ }
-    ensures { λ r. ⌜ r ≡ dupRow .reading (fieldsOf (dupRow .layout) word) ⌝ }
+// 0 where the divisor is.
+fn quotient(a: u32, b: u32) -> u32
+    ensures { λ r. ⌜ r ≡ a / b ⌝ }
+{
+    if b == 0 {
+        return 0;
+    }
+    a / b
+}
+
+pub(crate) fn dup(word: u32) -> DupOperands
+    ensures { λ r. ⌜ accept (dupAs r) ≡ readAt rows 2 word ⌝ }
 {
     let bits = word / 0x800000 % 2 * 16 + dup_tsz(word);
     let size = element::size_of(bits);
-    let offset = bits / (size / 4);
+    let offset = quotient(bits, size / 4);
     let index = 12 + word / 0x10000 % 4;
-    Instruction::Dup {
+    DupOperands {
         size,
         offset,
         index,
@@ -81,41 +91,41 @@ pub(crate) fn dup(word: u32) -> Instruction
     }
 }
 
-pub(crate) fn luti4c(word: u32) -> Instruction
-    ensures { λ r. ⌜ r ≡ luti4cRow .reading (fieldsOf (luti4cRow .layout) word) ⌝ }
+pub(crate) fn luti4c(word: u32) -> Operands
+    ensures { λ r. ⌜ r ≡ operandsIn (readAt rows 3 word) ⌝ }
 {
     let size = element_size(word / 0x1000 % 4);
-    Instruction::Luti4c {
+    Operands {
         size,
-        i1: word / 0x10000 % 2,
-        zn: word / 32 % 32,
-        zd: 4 * (word / 4 % 8),
+        immediate: word / 0x10000 % 2,
+        source: word / 32 % 32,
+        destination: 4 * (word / 4 % 8),
     }
 }
 
-pub(crate) fn luti4s(word: u32) -> Instruction
-    ensures { λ r. ⌜ r ≡ luti4sRow .reading (fieldsOf (luti4sRow .layout) word) ⌝ }
+pub(crate) fn luti4s(word: u32) -> Operands
+    ensures { λ r. ⌜ r ≡ operandsIn (readAt rows 4 word) ⌝ }
 {
     let size = element_size(word / 0x1000 % 4);
-    let zd = 16 * (word / 16 % 2) + word % 4;
-    Instruction::Luti4s {
+    let destination = 16 * (word / 16 % 2) + word % 4;
+    Operands {
         size,
-        i1: word / 0x10000 % 2,
-        zn: word / 32 % 32,
-        zd,
+        immediate: word / 0x10000 % 2,
+        source: word / 32 % 32,
+        destination,
     }
 }
 
-pub(crate) fn uqrshrnb(word: u32) -> Instruction
-    ensures { λ r. ⌜ r ≡ uqrshrnbRow .reading (fieldsOf (uqrshrnbRow .layout) word) ⌝ }
+pub(crate) fn uqrshrnb(word: u32) -> Operands
+    ensures { λ r. ⌜ r ≡ operandsIn (readAt rows 5 word) ⌝ }
 {
     let tsz = narrow_tsz(word);
     let size = narrow_size(tsz);
-    let shift = 2 * size - (tsz * 8 + word / 0x10000 % 8);
-    Instruction::Uqrshrnb {
+    let immediate = 2 * size - (tsz * 8 + word / 0x10000 % 8);
+    Operands {
         size,
-        shift,
-        zn: word / 32 % 32,
-        zd: word % 32,
+        immediate,
+        source: word / 32 % 32,
+        destination: word % 32,
     }
 }

@@ -6,7 +6,6 @@ ghost use Rattle.element.specs.Size.{pick};
 ghost use Rattle.encoding.specs.Layout.{matches, fieldsOf};
 ghost use Rattle.encoding.specs.Rows.{rows, pext1 as pext1Row, dup as dupRow, luti4c as luti4cRow, luti4s as luti4sRow, uqrshrnb as uqrshrnbRow};
 ghost use Rattle.encoding.specs.Forms.{layoutAt, placeFirst};
-use crate::fields;
 use setting::Feature;
 
 // The bits that each layout fixes, in the table's order, and what it fixes them to.
@@ -46,7 +45,9 @@ fn for_pext(features: u32) -> bool
 fn for_dup(features: u32, word: u32) -> bool
     ensures { λ r. ⌜ r ≡ (dupRow .features features && dupRow .condition (fieldsOf (dupRow .layout) word)) ⌝ }
 {
-    setting::has_feature(features, Feature::Sme) & (fields::dup_tsz(word) != 0)
+    let tszh = word / 0x400000 % 2;
+    let tszl = word / 0x40000 % 8;
+    setting::has_feature(features, Feature::Sme) & ((tszh != 0) | (tszl != 0))
 }
 
 fn for_luti4c(features: u32, word: u32) -> bool
@@ -66,7 +67,9 @@ fn for_luti4s(features: u32, word: u32) -> bool
 fn for_uqrshrnb(features: u32, word: u32) -> bool
     ensures { λ r. ⌜ r ≡ (uqrshrnbRow .features features && uqrshrnbRow .condition (fieldsOf (uqrshrnbRow .layout) word)) ⌝ }
 {
-    setting::has_either(features, Feature::Sve2, Feature::Sme) & (fields::narrow_tsz(word) != 0)
+    let tszh = word / 0x400000 % 2;
+    let tszl = word / 0x80000 % 4;
+    setting::has_either(features, Feature::Sve2, Feature::Sme) & ((tszh != 0) | (tszl != 0))
 }
 
 fn earlier(hit: bool, place: usize, later: usize) -> usize
@@ -89,11 +92,14 @@ pub(crate) fn row_of(features: u32, word: u32) -> usize
     earlier(pext1, 0, earlier(pext2, 1, earlier(dup, 2, from_luti4c)))
 }
 
-// The same, by turns: no word has two layouts, so the first that it has decides. In a run the same words come again, and
-// each branch is foreseen.
+// The same, by turns: no word has two layouts, so the first that it has decides, and the order is free: UQRSHRNB, the shortest
+// word for its length, comes first. In a run the same words come again, and each branch is foreseen.
 pub(crate) fn row_by_turns(features: u32, word: u32) -> usize
     ensures { λ r. ⌜ r ≡ placeFirst rows features word ⌝ }
 {
+    if has_layout(5, word) {
+        return earlier(for_uqrshrnb(features, word), 5, 6);
+    }
     if has_layout(0, word) {
         return earlier(for_pext(features), 0, 6);
     }
@@ -108,9 +114,6 @@ pub(crate) fn row_by_turns(features: u32, word: u32) -> usize
     }
     if has_layout(4, word) {
         return earlier(for_luti4s(features, word), 4, 6);
-    }
-    if has_layout(5, word) {
-        return earlier(for_uqrshrnb(features, word), 5, 6);
     }
     6
 }

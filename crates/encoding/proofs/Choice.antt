@@ -11,7 +11,7 @@ use Rattle.element.proofs.Below.{both}
 use Rattle.encoding.specs.Layout.{fieldsOf, matches}
 use Rattle.encoding.specs.Rows.{Row, rowMatches}
 use Rattle.encoding.specs.Forms.{placeFirst}
-use Rattle.encoding.specs.Decode.{firstOf}
+use Rattle.encoding.specs.Decode.{firstOf, readAt}
 use Rattle.encoding.specs.Claims.{noRow, countRows}
 use Rattle.encoding.specs.declared.Instruction.{Instruction}
 use Rattle.encoding.proofs.LayoutLaws.{sound}
@@ -26,16 +26,11 @@ abbrev pub disjoint : List Row → Bool
 disjoint [] = true
 disjoint (r ∷ rs) = apartFrom r rs && disjoint rs
 
--- the row at a place matches; what it reads there
+-- the row at a place matches
 abbrev pub matchesAt : List Row → ℕ → ℕ → ℕ → Bool
 matchesAt [] k f w = false
 matchesAt (r ∷ rs) zero f w = rowMatches r f w
 matchesAt (r ∷ rs) (suc k) f w = matchesAt rs k f w
-
-abbrev pub readAt : List Row → ℕ → ℕ → Outcome Instruction
-readAt [] k w = refuse 3
-readAt (r ∷ rs) zero w = accept (r .reading (fieldsOf (r .layout) w))
-readAt (r ∷ rs) (suc k) w = readAt rs k w
 
 pub read-past : (rs : List Row) (k w : ℕ) → length rs ≤ k → readAt rs k w ≡ refuse 3
 read-past [] k w h = refl

@@ -14,14 +14,14 @@ use Rattle.encoding.specs.Layout.{fieldsOf, wordOf, matches}
 use Rattle.encoding.specs.Instructions.{inRange, rawOf}
 use Rattle.encoding.specs.Rows.{Row, rows, rowOf, rowMatches, pext1, pext2, dup, luti4c, luti4s, uqrshrnb}
 use Rattle.encoding.specs.Forms.{placeOf, placeFirst}
-use Rattle.encoding.specs.Decode.{firstOf, decodeOf}
+use Rattle.encoding.specs.Decode.{firstOf, decodeOf, readAt}
 use Rattle.encoding.specs.Encode.{Written, written, encodeOf}
 use Rattle.encoding.specs.Claims.{UndefinedExactly, OneLayout, DecodeEncode, EncodeDecode}
 use Rattle.encoding.specs.declared.Instruction.{Instruction}
 use Rattle.encoding.specs.declared.Instruction.the-variants.{Pext1, Pext2, Dup, Luti4c, Luti4s, Uqrshrnb}
 use Rattle.encoding.proofs.LayoutLaws.{fields-back, word-matches}
 use Rattle.encoding.proofs.Apart.{decide}
-use Rattle.encoding.proofs.Choice.{disjoint, matchesAt, readAt, none-first, first-is-read, place-is, at-most-one, refused-none, accepted-by, first-three}
+use Rattle.encoding.proofs.Choice.{disjoint, matchesAt, none-first, first-is-read, place-is, at-most-one, refused-none, accepted-by, first-three}
 use Rattle.encoding.proofs.InRange.{in-range-reads}
 use Rattle.encoding.proofs.WrittenBack.{RowWrites, pext1-writes, pext2-writes, dup-row-writes, luti4c-row-writes, luti4s-row-writes, uqrshrnb-row-writes}
 

@@ -1,6 +1,6 @@
 -- Document 01, "for reading a word 1, 3": what a word is read as under a setting.
 use mathlib.Core.List.{List, [], _∷_}
-use Prim.Native.Nat.{ℕ}
+use Prim.Native.Nat.{ℕ, zero, suc}
 use Rattle.setting.specs.Allowed.{allowedOf}
 use Rattle.setting.specs.Numbers.{Outcome, accept, refuse, numberOf}
 use Rattle.setting.specs.declared.Setting.{Setting}
@@ -15,6 +15,12 @@ use Rattle.encoding.specs.declared.Decoded.the-variants.{Fields, Refused
 abbrev pub firstOf : List Row → ℕ → ℕ → Outcome Instruction
 firstOf [] f w = refuse 3
 firstOf (r ∷ rs) f w = pick (rowMatches r f w) (accept (r .reading (fieldsOf (r .layout) w))) (firstOf rs f w)
+
+-- what the row at a place of the table, from 0, reads; 3 past its end
+abbrev pub readAt : List Row → ℕ → ℕ → Outcome Instruction
+readAt [] k w = refuse 3
+readAt (r ∷ rs) zero w = accept (r .reading (fieldsOf (r .layout) w))
+readAt (r ∷ rs) (suc k) w = readAt rs k w
 
 unfoldable pub decodeOf : Setting → ℕ → Outcome Instruction
 decodeOf s w = pick (allowedOf s) (firstOf rows (s .features) w) (refuse 1)

@@ -1,6 +1,7 @@
 pub mod Operations
 pub mod Inside
 pub mod Steps
+pub mod Forms
 pub mod Runs
 pub mod Moves
 pub mod Registers

@@ -17,8 +17,7 @@ use Rattle.encoding.specs.Instructions.{inRange, pextInRange, dupInRange, narro
 use Rattle.element.proofs.Tests.{both-yes}
 use Rattle.element.proofs.Units.{size-cases}
 use Rattle.encoding.proofs.FieldBits.{strided-zd}
-use Rattle.encoding.proofs.InRange.{pext-ranges, dup-ranges, luti-ranges, narrow-ranges, known-range}
-use Rattle.encoding.specs.declared.Instruction.{Instruction}
+use Rattle.encoding.proofs.InRange.{pext-ranges, dup-ranges, luti-ranges, narrow-ranges}
 use Rattle.encoding.specs.declared.Instruction.the-variants.{Pext1, Pext2, Dup, Luti4c, Luti4s, Uqrshrnb}
 use Rattle.predicate.specs.Pext.{pextReady, pextSlots, pextLeaves}
 use Rattle.predicate.specs.Dup.{dupReady, dupLeaves}
@@ -26,25 +25,14 @@ use Rattle.lookup.specs.Lookup.{lutiFile}
 use Rattle.narrow.specs.Narrow.{uqrshrnbFile}
 use Rattle.lookup.specs.Calls.{luti4Ready, luti4File}
 use Rattle.narrow.specs.Calls.{narrowReady, narrowFile}
-use Rattle.machine.specs.Machine.{Machine, machine, get, put}
+use Rattle.machine.specs.Machine.{machine, get, put}
 use Rattle.machine.specs.Gives.{givesOf}
 use Rattle.machine.specs.Done.{Ready, doneOf}
 use Rattle.machine.specs.declared.Scalars.{Scalars}
 
--- an instruction that is known
-pub known-done : {i j : Instruction} {a b c vl : ℕ} {m : Machine} (n : Machine) → i ≡ j → Ready a b c vl i → (Ready a b c vl j → m ≡ doneOf vl j n) → m ≡ doneOf vl i n
-known-done n e r f = rw e (f (rw (sym e) r))
-
 size-of-pext : (bound size portion counter pd : ℕ) → pextInRange bound size portion counter pd ≡ true → isSize size ≡ true
 size-of-pext bound size portion counter pd e =
     both-yes (isSize size) (ltb portion bound) (both-yes (isSize size && ltb portion bound) (leb 8 counter && ltb counter 16) (both-yes (isSize size && ltb portion bound && (leb 8 counter && ltb counter 16)) (ltb pd 16) e .0) .0) .0
-
--- what the calls ask of a known instruction
-pub pext2-i1 : {i : Instruction} {a b c vl : ℕ} (size i1 counter pd : ℕ) → i ≡ Pext2 size i1 counter pd → Ready a b c vl i → i1 < 2
-pext2-i1 size i1 counter pd e r = pext-ranges 2 size i1 counter pd (known-range e (r .range)) .portion-lt
-
-pub dup-index : {i : Instruction} {a b c vl : ℕ} (size offset index pg pn pd : ℕ) → i ≡ Dup size offset index pg pn pd → Ready a b c vl i → (12 ≤ index) × (index < 16)
-dup-index size offset index pg pn pd e r = let g = dup-ranges size offset index pg pn pd (known-range e (r .range)) in (g .index-ge, g .index-lt)
 
 -- the tests of the leaves hold
 pext-ready : (bound size portion counter pd first n vl : ℕ) → pextInRange bound size portion counter pd ≡ true → (eqb n 1 || eqb n 2) ≡ true → first + n ≤ 4 → lengthAllowed vl ≡ true

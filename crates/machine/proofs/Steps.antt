@@ -1,4 +1,4 @@
--- What a step is in each case that the code meets, over plain numbers and lists: what the proofs of `execute` and `step` cite.
+-- What a step is in each case that the code meets, over plain numbers and lists: what the proofs of the words and of `step` cite.
 use mathlib.Core.Path.{_≡_, refl, sym, ap, _∙_}
 use mathlib.Core.Bool.{true, false, _&&_}
 use mathlib.Core.List.{List}
@@ -8,21 +8,19 @@ use lib.Dec.{eqb}
 use lib.ListN.{length}
 use borrow.Author.Tests.{eqb-true}
 use Rattle.setting.specs.Allowed.{lengthAllowed, featuresAllowed, allowedOf}
-use Rattle.setting.specs.Numbers.{accept, refuse, numberOf}
+use Rattle.setting.specs.Numbers.{Outcome, accept, refuse, numberOf}
 use Rattle.setting.specs.declared.Setting.{Setting}
 use Rattle.setting.specs.declared.Answer.{Answer}
 use Rattle.setting.specs.declared.Answer.the-variants.{Done, NotAllowed, WrongLength, Undefined, VectorsClosed, StreamingClosed, TableClosed, IndexPast, TooManyWords, OutOfRange}
 use Rattle.order.specs.Touch.{perform}
 use Rattle.encoding.specs.Rows.{rows}
-use Rattle.encoding.specs.Decode.{firstOf, decodeOf, decodedAs}
+use Rattle.encoding.specs.Decode.{firstOf, decodeOf}
 use Rattle.encoding.specs.declared.Instruction.{Instruction}
-use Rattle.encoding.specs.declared.Decoded.{Decoded}
-use Rattle.encoding.specs.declared.Decoded.the-variants.{Fields, Refused}
 use Rattle.element.proofs.Tests.{both-yes}
-use Rattle.encoding.proofs.Round.{read-in-range, refused-three}
+use Rattle.encoding.proofs.Round.{read-in-range}
 use Rattle.machine.specs.Machine.{Machine, machine, advanced, next}
 use Rattle.machine.specs.Step.{Step, sized, firstFailed, needsOf, refusalOf, execOf, after, stepOf}
-use Rattle.machine.specs.Done.{Ready, doneOf, executed, executedOf, movedBy, steppedBy}
+use Rattle.machine.specs.Done.{Ready, doneOf, executed, executedOf, movedBy}
 use Rattle.machine.specs.declared.Scalars.{Scalars}
 
 pub number-small : (a : Answer) → numberOf a < 10
@@ -61,17 +59,14 @@ module _ (s : Setting) (w : ℕ) (m : Machine) where
     step-not-sized h = rw (a, h)
 
     -- under an allowed setting a word is read by the features alone
-    read-is : (d : Decoded) → decodedAs d ≡ firstOf rows (s .features) w → decodeOf s w ≡ decodedAs d
+    read-is : (o : Outcome Instruction) → firstOf rows (s .features) w ≡ o → decodeOf s w ≡ o
     unfolding decodeOf
-    read-is d e = rw a (sym e)
+    read-is o e = rw a e
 
     module _ (h : sized m ≡ true) where
-      pub step-undefined : (d : Decoded) (x : Answer) → decodedAs d ≡ firstOf rows (s .features) w → d ≡ Refused x → steppedBy x (m .z) (m .p) (m .zt) (m .scalars) ≡ stepOf s w m
+      pub step-undefined : firstOf rows (s .features) w ≡ refuse 3 → _≡_ {A = Step} (record { number = 3; left = m }) (stepOf s w m)
       unfolding stepOf refusalOf
-      step-undefined d x e k =
-          let r : decodeOf s w ≡ refuse (numberOf x) = read-is d e ∙ ap decodedAs k in
-          let three : numberOf x ≡ 3 = refused-three s w (numberOf x) a r in
-          rw (a, h, r, three)
+      step-undefined e = rw (a, h, read-is (refuse 3) e)
 
       exec-is : (i : Instruction) → decodeOf s w ≡ accept i → execOf s w m ≡ next (doneOf (s .vl) i m)
       unfolding execOf perform doneOf
@@ -81,16 +76,16 @@ module _ (s : Setting) (w : ℕ) (m : Machine) where
       after-is i e zero = ap (λ (x : Machine). record { number = 0; left = x }) (sym (exec-is i e))
       after-is i e (suc k) = refl
 
-      pub step-executes : (d : Decoded) (i : Instruction) → decodedAs d ≡ firstOf rows (s .features) w → d ≡ Fields i → executedOf s i m ≡ stepOf s w m
+      pub step-executes : (i : Instruction) → firstOf rows (s .features) w ≡ accept i → executedOf s i m ≡ stepOf s w m
       unfolding stepOf refusalOf executedOf
-      step-executes d i e k =
-          let r : decodeOf s w ≡ accept i = read-is d e ∙ ap decodedAs k in
+      step-executes i e =
+          let r : decodeOf s w ≡ accept i = read-is (accept i) e in
           let q : firstFailed (needsOf s i (m .scalars)) ≡ refusalOf s w m = rw (a, h, r) in
           after-is i r (firstFailed (needsOf s i (m .scalars))) ∙ ap (λ (n : ℕ). after n s w m) q
 
-      pub step-ready : (d : Decoded) (i : Instruction) → decodedAs d ≡ firstOf rows (s .features) w → d ≡ Fields i → Ready (length (m .z)) (length (m .p)) (length (m .zt)) (s .vl) i
+      pub step-ready : (i : Instruction) → firstOf rows (s .features) w ≡ accept i → Ready (length (m .z)) (length (m .p)) (length (m .zt)) (s .vl) i
       unfolding allowedOf
-      step-ready d i e k =
+      step-ready i e =
           let b = both-yes (eqb (length (m .z)) 8192 && eqb (length (m .p)) 512) (eqb (length (m .zt)) 64) h in
           let c = both-yes (eqb (length (m .z)) 8192) (eqb (length (m .p)) 512) (b .0) in
           record {
@@ -98,7 +93,7 @@ module _ (s : Setting) (w : ℕ) (m : Machine) where
             predicates = eqb-true (length (m .p)) 512 (c .1);
             table = eqb-true (length (m .zt)) 64 (b .1);
             length = both-yes (lengthAllowed (s .vl)) (featuresAllowed (s .features)) a .0;
-            range = read-in-range s i w (read-is d e ∙ ap decodedAs k);
+            range = read-in-range s i w (read-is (accept i) e);
           }
 
 -- ---- the scalars after a word

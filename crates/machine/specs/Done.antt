@@ -1,17 +1,19 @@
 -- What the code goes by: an instruction's new contents put into a machine, PC apart.
 use mathlib.Core.Path.{_≡_}
-use mathlib.Core.Bool.{true}
+use mathlib.Core.Bool.{Bool, true}
 use mathlib.Core.List.{List}
 use Prim.Native.Nat.{ℕ, zero, suc}
 use Rattle.setting.specs.Allowed.{lengthAllowed, allowedOf}
 use Rattle.order.specs.Steps.{Ended}
 use Rattle.order.specs.Touch.{gets, puts}
+use Rattle.encoding.specs.Rows.{rows}
+use Rattle.encoding.specs.Forms.{placeFirst}
 use Rattle.encoding.specs.Instructions.{inRange}
 use Rattle.encoding.specs.declared.Instruction.{Instruction}
-use Rattle.machine.specs.Machine.{Machine, get, put, next, advanced}
+use Rattle.machine.specs.Machine.{Machine, machine, get, put, next, advanced}
 use Rattle.machine.specs.Touched.{readsOf, writesOf}
 use Rattle.machine.specs.Gives.{givesOf}
-use Rattle.machine.specs.Step.{Step, sized, firstFailed, needsOf, stepAs}
+use Rattle.machine.specs.Step.{Step, sized, firstFailed, needsOf, stepOf, stepAs}
 use Rattle.machine.specs.Run.{runAs}
 use Rattle.setting.specs.Numbers.{numberOf}
 use Rattle.setting.specs.declared.Setting.{Setting}
@@ -42,6 +44,11 @@ pub record Checked (s : Setting) (m : Machine) : Type 0 where
   pub allowed : allowedOf s ≡ true
   pub files : sized m ≡ true
 
+-- and the place of the word's row is known
+pub record Known (row : ℕ) (s : Setting) (w : ℕ) (m : Machine) : Type 0 where
+  pub checked : Checked s m
+  pub place : row ≡ placeFirst rows (s .features) w
+
 -- what is left of an answer, the files at exit and the scalars as they were: PC moves where the answer is 0
 abbrev pub movedBy : ℕ → Scalars → Scalars
 movedBy zero c = advanced c
@@ -58,3 +65,31 @@ movedOn (suc n) c = advanced (movedOn n c)
 -- a number after n words that were done, with the files at exit and the scalars as they were before the stretch
 abbrev pub wentAs : ℕ → ℕ → List ℕ → List ℕ → List ℕ → Scalars → Ended Machine
 wentAs a n z p zt c = runAs a n z p zt (movedOn n c)
+
+-- ---- a word that is lent one file: its answer and that file are the step's on every machine that has the file and the scalars asked for
+abbrev pub PredicateWord : ℕ → Setting → ℕ → (Scalars → Type 0) → Answer → List ℕ → List ℕ → Type 0
+PredicateWord row s w Has r p p′ = (z zt : List ℕ) (c : Scalars) → Has c → Known row s w (machine z p zt c) → steppedBy r z p′ zt c ≡ stepOf s w (machine z p zt c)
+
+abbrev pub VectorWord : ℕ → Setting → ℕ → (Scalars → Type 0) → Answer → List ℕ → List ℕ → List ℕ → Type 0
+VectorWord row s w Has r zt z z′ = (p : List ℕ) (c : Scalars) → Has c → Known row s w (machine z p zt c) → steppedBy r z′ p zt c ≡ stepOf s w (machine z p zt c)
+
+-- one that reads no table
+abbrev pub TablelessWord : ℕ → Setting → ℕ → (Scalars → Type 0) → Answer → List ℕ → List ℕ → Type 0
+TablelessWord row s w Has r z z′ = (zt : List ℕ) → VectorWord row s w Has r zt z z′
+
+abbrev pub HasV : Bool → Scalars → Type 0
+HasV v c = c .v ≡ v
+
+abbrev pub HasVS : Bool → Bool → Scalars → Type 0
+HasVS v s c = (c .v ≡ v) × (c .s ≡ s)
+
+abbrev pub HasST : Bool → Bool → Scalars → Type 0
+HasST s t c = (c .s ≡ s) × (c .t ≡ t)
+
+abbrev pub HasWV : ℕ → ℕ → ℕ → ℕ → Bool → Scalars → Type 0
+HasWV w12 w13 w14 w15 v c = (c .w12 ≡ w12) × (c .w13 ≡ w13) × (c .w14 ≡ w14) × (c .w15 ≡ w15) × (c .v ≡ v)
+
+-- what is left of a file by a word of that answer
+abbrev pub ifDone : ℕ → List ℕ → List ℕ → List ℕ
+ifDone zero done before = done
+ifDone (suc k) done before = before

@@ -1,6 +1,6 @@
 // One step of the machine, and a run of them: a word read, its access tested, its operation done on the lent files, and PC advanced.
 mod access;
-mod operate;
+mod words;
 
 ghost use mathlib.Core.Path.{_≡_};
 ghost use mathlib.Core.Bool.{_&&_};
@@ -12,10 +12,8 @@ ghost use Rattle.setting.specs.Numbers.{numberOf};
 ghost use Rattle.order.specs.Steps.{steps};
 ghost use Rattle.machine.specs.Step.{refusalOf, execOf, stepOf, steppedAs};
 ghost use Rattle.machine.specs.Run.{runOf, ranAs};
-ghost use Rattle.machine.specs.Done.{Ready, Checked, executedOf, movedBy, steppedBy, movedOn, wentAs};
+ghost use Rattle.machine.specs.Done.{Checked, movedBy, steppedBy, movedOn, wentAs};
 ghost use Rattle.machine.specs.Claims.{Claims};
-use encoding::Decoded;
-use encoding::Instruction;
 use setting::Answer;
 use setting::Setting;
 
@@ -50,6 +48,16 @@ fn advance(scalars: Scalars) -> Scalars
     let mut next = scalars;
     next.pc = std::num::wrapping_add_u64(scalars.pc, 4);
     next
+}
+
+// PC moves where the word was done.
+fn moved_by(answer: Answer, scalars: Scalars) -> Scalars
+    ensures { λ r. ⌜ r ≡ movedBy (numberOf answer) scalars ⌝ }
+{
+    if setting::number(answer) != 0 {
+        return scalars;
+    }
+    advance(scalars)
 }
 
 fn answer_of(number: u32) -> Answer
@@ -89,43 +97,66 @@ fn sized(z: usize, p: usize, zt: usize) -> bool
     (z == 8192) & (p == 512) & (zt == 64)
 }
 
-// An instruction that was read: refused for its access, or done. PC is left to the caller: no record goes through memory.
-fn execute(
+// One word of a run, where the setting is allowed and each file has its length. The scalars come one by one: a record would go
+// through memory, which a short word feels.
+fn step_in_run(
     z: &mut [u8],
     p: &mut [u8],
     zt: &[u8],
-    scalars: Scalars,
-    setting: Setting,
-    instruction: Instruction,
-) -> Answer
-    requires { ⌜ Ready (length (now z)) (length (now p)) (length (now zt)) (setting .vl) instruction ⌝ }
-    ensures { λ r. ⌜ steppedBy r (now (z .exit)) (now (p .exit)) (now (zt .entry)) scalars ≡ executedOf setting instruction (machine (now (z .entry)) (now (p .entry)) (now (zt .entry)) scalars) ⌝ }
-{
-    let vl = setting.vl;
-    let answer = access::access(setting, scalars, instruction);
-    if setting::number(answer) != 0 {
-        return answer;
-    }
-    operate::operate(z, p, zt, scalars, vl, instruction);
-    Answer::Done
-}
-
-// One word, where the setting is allowed and each file has its length.
-fn checked_step(
-    z: &mut [u8],
-    p: &mut [u8],
-    zt: &[u8],
-    scalars: Scalars,
+    w12: u32,
+    w13: u32,
+    w14: u32,
+    w15: u32,
+    pc: u64,
+    v: bool,
+    s: bool,
+    t: bool,
     setting: Setting,
     word: u32,
 ) -> Answer
-    requires { ⌜ Checked setting (machine (now z) (now p) (now zt) scalars) ⌝ }
-    ensures { λ r. ⌜ steppedBy r (now (z .exit)) (now (p .exit)) (now (zt .entry)) scalars ≡ stepOf setting word (machine (now (z .entry)) (now (p .entry)) (now (zt .entry)) scalars) ⌝ }
+    requires { ⌜ Checked setting (machine (now z) (now p) (now zt) (scalarsOf w12 w13 w14 w15 pc v s t)) ⌝ }
+    ensures { λ r. ⌜ steppedBy r (now (z .exit)) (now (p .exit)) (now (zt .entry)) (scalarsOf w12 w13 w14 w15 pc v s t) ≡ stepOf setting word (machine (now (z .entry)) (now (p .entry)) (now (zt .entry)) (scalarsOf w12 w13 w14 w15 pc v s t)) ⌝ }
 {
-    let features = setting.features;
-    match decoder::decode_by_turns(features, word) {
-        Decoded::Fields(instruction) => execute(z, p, zt, scalars, setting, instruction),
-        Decoded::Refused(answer) => answer,
+    let row = decoder::row(setting.features, word);
+    match row {
+        0 => words::pext1(p, setting, v, s, word),
+        1 => words::pext2(p, setting, v, s, word),
+        2 => words::dup(p, setting, w12, w13, w14, w15, v, word),
+        3 => words::luti4c(z, zt, setting, s, t, word),
+        4 => words::luti4s(z, zt, setting, s, t, word),
+        5 => words::uqrshrnb(z, setting, v, word),
+        _ => Answer::Undefined,
+    }
+}
+
+// The same for a word alone: with one caller each, the compiler puts the one into the loop and the other into `step`.
+fn step_alone(
+    z: &mut [u8],
+    p: &mut [u8],
+    zt: &[u8],
+    w12: u32,
+    w13: u32,
+    w14: u32,
+    w15: u32,
+    pc: u64,
+    v: bool,
+    s: bool,
+    t: bool,
+    setting: Setting,
+    word: u32,
+) -> Answer
+    requires { ⌜ Checked setting (machine (now z) (now p) (now zt) (scalarsOf w12 w13 w14 w15 pc v s t)) ⌝ }
+    ensures { λ r. ⌜ steppedBy r (now (z .exit)) (now (p .exit)) (now (zt .entry)) (scalarsOf w12 w13 w14 w15 pc v s t) ≡ stepOf setting word (machine (now (z .entry)) (now (p .entry)) (now (zt .entry)) (scalarsOf w12 w13 w14 w15 pc v s t)) ⌝ }
+{
+    let row = decoder::row(setting.features, word);
+    match row {
+        0 => words::pext1(p, setting, v, s, word),
+        1 => words::pext2(p, setting, v, s, word),
+        2 => words::dup(p, setting, w12, w13, w14, w15, v, word),
+        3 => words::luti4c(z, zt, setting, s, t, word),
+        4 => words::luti4s(z, zt, setting, s, t, word),
+        5 => words::uqrshrnb(z, setting, v, word),
+        _ => Answer::Undefined,
     }
 }
 
@@ -150,33 +181,37 @@ fn checked_run(
     requires { ⌜ Checked setting (machine (now z) (now p) (now zt) (scalarsOf w12 w13 w14 w15 pc v s t)) × (length (now words) ≤ 256) ⌝ }
     ensures { λ r. ⌜ (wentAs r (now (done .exit)) (now (z .exit)) (now (p .exit)) (now (zt .entry)) (scalarsOf w12 w13 w14 w15 pc v s t) ≡ steps (refusalOf setting) (execOf setting) (now (words .entry)) 0 (machine (now (z .entry)) (now (p .entry)) (now (zt .entry)) (scalarsOf w12 w13 w14 w15 pc v s t))) × (now (done .exit) ≤ 256) × (r < 10) ⌝ }
 {
-    let mut held = Scalars {
-        w12,
-        w13,
-        w14,
-        w15,
-        pc,
-        v,
-        s,
-        t,
-    };
+    let mut at = pc;
     let mut n: u32 = 0;
     while (n as usize) < words.len() {
-        let answer = checked_step(&mut *z, &mut *p, zt, held, setting, words[n as usize]);
+        let answer = step_in_run(
+            &mut *z,
+            &mut *p,
+            zt,
+            w12,
+            w13,
+            w14,
+            w15,
+            at,
+            v,
+            s,
+            t,
+            setting,
+            words[n as usize],
+        );
         let number = setting::number(answer);
         if number != 0 {
             *done = n;
             return number;
         }
-        held = advance(held);
+        at = std::num::wrapping_add_u64(at, 4);
         n += 1;
     }
     *done = n;
     0
 }
 
-// One word: a stretch of one, so that `checked_step` has a single caller and goes into its loop. ZT0 is lent for words to
-// come that write it; today it stays.
+// One word. ZT0 is lent for words to come that write it; today it stays.
 pub fn step(
     z: &mut [u8],
     p: &mut [u8],
@@ -199,9 +234,7 @@ pub fn step(
             scalars,
         };
     }
-    let one = [word];
-    let mut done: u32 = 0;
-    let number = checked_run(
+    let answer = step_alone(
         z,
         p,
         zt,
@@ -214,12 +247,11 @@ pub fn step(
         scalars.s,
         scalars.t,
         setting,
-        &one,
-        &mut done,
+        word,
     );
     Stepped {
-        answer: answer_of(number),
-        scalars: moved_on(scalars, done),
+        answer,
+        scalars: moved_by(answer, scalars),
     }
 }
 

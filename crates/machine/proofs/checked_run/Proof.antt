@@ -1,5 +1,5 @@
 -- `checked_run` meets its contract: what is left of the stretch, stepped from where the loop stands, ends as the whole does.
-use mathlib.Core.Path.{_≡_, refl, sym, _∙_}
+use mathlib.Core.Path.{_≡_, refl, sym, ap, _∙_}
 use mathlib.Core.List.{List}
 use Prim.Native.Nat.{ℕ, _-_, _≤_}
 use native.Mathlib.Omega.{arith}
@@ -27,10 +27,10 @@ record Running (z₀ p₀ zt : List ℕ) (s : Setting) (words : List ℕ) (befor
   left : steps (refusalOf s) (execOf s) (drop done words) done (machine z p zt held) ≡ steps (refusalOf s) (execOf s) words 0 (machine z₀ p₀ zt before)
 
 abbrev Inv-loop : tie.InvT-loop
-Inv-loop z₀ p₀ zt w12 w13 w14 w15 pc v s t setting words done₀ held₀ n₀ z p done held n = Running z₀ p₀ zt setting words (scalarsOf w12 w13 w14 w15 pc v s t) z p held n
+Inv-loop z₀ p₀ zt w12 w13 w14 w15 pc v s t setting words done₀ at₀ n₀ z p done at n = Running z₀ p₀ zt setting words (scalarsOf w12 w13 w14 w15 pc v s t) z p (scalarsOf w12 w13 w14 w15 at v s t) n
 
 abbrev μ-loop : tie.MeasureT-loop
-μ-loop z₀ p₀ zt w12 w13 w14 w15 pc v s t setting words done₀ held₀ n₀ z p done held n = length words - n
+μ-loop z₀ p₀ zt w12 w13 w14 w15 pc v s t setting words done₀ at₀ n₀ z p done at n = length words - n
 
 loop-holds : tie.Need-loop-holds Inv-loop μ-loop
 loop-holds c = record { short = c .before .before .before .before .pre .1; within = omega arith; vectors = refl; predicates = refl; checked = c .before .before .before .before .pre .0; scalars = moved-on-none 0 _ refl; left = refl }
@@ -38,34 +38,34 @@ loop-holds c = record { short = c .before .before .before .before .pre .1; withi
 cast-loop : tie.Need-cast-loop Inv-loop μ-loop
 cast-loop c = search needs
 
-cast-checked-step : tie.Need-cast-checked-step Inv-loop μ-loop
-cast-checked-step c = search needs
+cast-step-in-run : tie.Need-cast-step-in-run Inv-loop μ-loop
+cast-step-in-run c = search needs
 
-mul-checked-step : tie.Need-mul-checked-step Inv-loop μ-loop
-mul-checked-step c = search needs
+mul-step-in-run : tie.Need-mul-step-in-run Inv-loop μ-loop
+mul-step-in-run c = search needs
 
-shared-slice-read-checked-step : tie.Need-shared-slice-read-checked-step Inv-loop μ-loop
-shared-slice-read-checked-step c = search needs
+shared-slice-read-step-in-run : tie.Need-shared-slice-read-step-in-run Inv-loop μ-loop
+shared-slice-read-step-in-run c = search needs
 
-checked-step-requires : tie.Need-checked-step-requires Inv-loop μ-loop
-checked-step-requires c κs = c .before .before .before .before .loop .inv .checked
+step-in-run-requires : tie.Need-step-in-run-requires Inv-loop μ-loop
+step-in-run-requires c κs = c .before .before .before .before .loop .inv .checked
 
 number-requires : tie.Need-number-requires Inv-loop μ-loop
 number-requires c κs = search needs
 
 same-length : tie.Need-same-length Inv-loop μ-loop
-same-length c = c .before .before .before .before .before .before .checked-step .kept .0 ∙ c .before .before .before .before .before .before .before .before .before .before .before .loop .inv .vectors
+same-length c = c .before .before .before .before .before .before .step-in-run .kept .0 ∙ c .before .before .before .before .before .before .before .before .before .before .before .loop .inv .vectors
 
 same-length-2 : tie.Need-same-length-2 Inv-loop μ-loop
-same-length-2 c = c .before .before .before .before .before .before .checked-step .kept .1 .0 ∙ c .before .before .before .before .before .before .before .before .before .before .before .loop .inv .predicates
+same-length-2 c = c .before .before .before .before .before .before .step-in-run .kept .1 .0 ∙ c .before .before .before .before .before .before .before .before .before .before .before .loop .inv .predicates
 
 returns : tie.Need-returns Inv-loop μ-loop
 returns c = let l = c .before .before .before .before .before .before .before .before .before .before .before .loop in
-    let k = c .before .before .before .before .before .before .checked-step in
+    let k = c .before .before .before .before .before .before .step-in-run in
     (rw (c .before .number .ensures) (stopped-unmoved _ _ (l .n) _ _ _ _ _ _ _ (omega arith) (k .ensures) (l .inv .left) _ (l .inv .scalars) (λ h. c .if1 .taken (c .before .number .ensures ∙ h))), omega (arith, l .inv .within, l .inv .short), rw (c .before .number .ensures) (number-small (k .result)))
 
-advance-requires : tie.Need-advance-requires Inv-loop μ-loop
-advance-requires c κs = search needs
+wrapping-add-u64-requires : tie.Need-wrapping-add-u64-requires Inv-loop μ-loop
+wrapping-add-u64-requires c κs = search needs
 
 add-n : tie.Need-add-n Inv-loop μ-loop
 add-n c = omega arith
@@ -75,17 +75,19 @@ loop-less c = omega arith
 
 loop-again : tie.Need-loop-again Inv-loop μ-loop
 loop-again c = let l = c .before .before .before .before .before .before .before .before .before .before .before .before .loop in
-    let k = c .before .before .before .before .before .before .before .checked-step in
+    let a = c .before .before .before .before .before .before .before .before .before .before .before .before .before .before .before .before .before .args in
+    let k = c .before .before .before .before .before .before .before .step-in-run in
     let y = k .kept .0 in
     let x = k .kept .1 .0 in
+    let held : ℕ → Scalars = λ n. scalarsOf (a .w12) (a .w13) (a .w14) (a .w15) n (a .v) (a .s) (a .t) in
     record {
       short = l .inv .short;
       within = omega arith;
       vectors = y ∙ l .inv .vectors;
       predicates = x ∙ l .inv .predicates;
       checked = still-checked _ _ _ _ _ _ _ _ y x (l .inv .checked);
-      scalars = c .advance .ensures ∙ moved-on-once _ _ _ (l .inv .scalars);
-      left = went-on-moved _ _ (l .n) _ _ _ _ _ _ _ (omega arith) (k .ensures) (l .inv .left) _ (c .advance .ensures) (sym (c .before .before .number .ensures) ∙ c .before .if1 .left);
+      scalars = ap held (c .wrapping-add-u64 .ensures) ∙ moved-on-once _ _ _ (l .inv .scalars);
+      left = went-on-moved _ _ (l .n) _ _ _ _ _ _ _ (omega arith) (k .ensures) (l .inv .left) _ (ap held (c .wrapping-add-u64 .ensures)) (sym (c .before .before .number .ensures) ∙ c .before .if1 .left);
     }
 
 same-length-3 : tie.Need-same-length-3 Inv-loop μ-loop
@@ -105,15 +107,15 @@ checked-run-spec =
     μ-loop
     loop-holds
     cast-loop
-    cast-checked-step
-    mul-checked-step
-    shared-slice-read-checked-step
-    checked-step-requires
+    cast-step-in-run
+    mul-step-in-run
+    shared-slice-read-step-in-run
+    step-in-run-requires
     number-requires
     same-length
     same-length-2
     returns
-    advance-requires
+    wrapping-add-u64-requires
     add-n
     loop-less
     loop-again

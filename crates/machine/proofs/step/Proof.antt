@@ -1,9 +1,6 @@
--- `step` meets its contract: 1 and 2 are tested, and the rest is a run of one word.
-use mathlib.Core.Path.{ap, _∙_}
+-- `step` meets its contract: 1 and 2 are tested, and the rest is `step_alone`, with PC moved by its answer.
 use Rattle.element.proofs.Tests.{said-no, said-yes}
 use Rattle.machine.proofs.Steps.{step-not-allowed, step-not-sized}
-use Rattle.machine.proofs.Runs.{firstStep, one-word}
-use native.Mathlib.Omega.{arith}
 use borrow.Author.Needs.{needs}
 use Rattle.machine.proofs.step.Statement.{statement}
 use Rattle.machine.proofs.step.Tie as tie
@@ -20,17 +17,11 @@ sized-requires c κs = search needs
 returns-2 : tie.Need-returns-2
 returns-2 c = step-not-sized _ _ _ (said-yes (c .before .before .before .allowed .ensures) (c .before .before .if1 .left)) (said-no (c .before .sized .ensures) (c .if2 .taken))
 
-slice-aggregate-checked-run : tie.Need-slice-aggregate-checked-run
-slice-aggregate-checked-run c = search needs
+step-alone-requires : tie.Need-step-alone-requires
+step-alone-requires c κs = record { allowed = said-yes (c .before .before .before .before .before .before .allowed .ensures) (c .before .before .before .before .before .if1 .left); files = said-yes (c .before .before .before .before .sized .ensures) (c .before .before .before .if2 .left) }
 
-checked-run-requires : tie.Need-checked-run-requires
-checked-run-requires c κs = (record { allowed = said-yes (c .before .before .before .before .before .before .before .before .allowed .ensures) (c .before .before .before .before .before .before .before .if1 .left); files = said-yes (c .before .before .before .before .before .before .sized .ensures) (c .before .before .before .before .before .if2 .left) }, omega arith)
-
-answer-of-requires : tie.Need-answer-of-requires
-answer-of-requires c κs = c .before .before .before .before .checked-run .ensures .2
-
-moved-on-requires : tie.Need-moved-on-requires
-moved-on-requires c κs = c .before .before .before .before .before .checked-run .ensures .1
+moved-by-requires : tie.Need-moved-by-requires
+moved-by-requires c κs = search needs
 
 same-length : tie.Need-same-length
 same-length c = search needs
@@ -42,7 +33,7 @@ same-length-3 : tie.Need-same-length-3
 same-length-3 c = search needs
 
 returns-3 : tie.Need-returns-3
-returns-3 c = rw (c .moved-on .ensures, c .before .answer-of .ensures) (ap firstStep (c .before .before .before .before .before .before .checked-run .ensures .0) ∙ one-word _ _ _)
+returns-3 c = rw (c .moved-by .ensures) (c .before .before .before .before .before .step-alone .ensures)
 
 pub step-spec : {M : Type 1} → statement M
 step-spec =
@@ -52,10 +43,8 @@ step-spec =
     returns
     sized-requires
     returns-2
-    slice-aggregate-checked-run
-    checked-run-requires
-    answer-of-requires
-    moved-on-requires
+    step-alone-requires
+    moved-by-requires
     same-length
     same-length-2
     same-length-3

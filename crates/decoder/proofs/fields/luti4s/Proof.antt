@@ -7,14 +7,14 @@ use Rattle.decoder.proofs.fields.luti4s.Tie as tie
 element-size-requires : tie.Need-element-size-requires
 element-size-requires c κs = search needs
 
-mul-zd : tie.Need-mul-zd
-mul-zd c = search needs
+mul-destination : tie.Need-mul-destination
+mul-destination c = search needs
 
-add-zd : tie.Need-add-zd
-add-zd c = search needs
+add-destination : tie.Need-add-destination
+add-destination c = search needs
 
 returns : tie.Need-returns
 returns c = rw (c .element-size .ensures, div-one (c .before .args .word))
 
 pub luti4s-spec : {M : Type 1} → statement M
-luti4s-spec = tie.close (tie.spec element-size-requires mul-zd add-zd returns)
+luti4s-spec = tie.close (tie.spec element-size-requires mul-destination add-destination returns)

@@ -13,17 +13,17 @@ narrow-tsz-requires c κs = search needs
 narrow-size-requires : tie.Need-narrow-size-requires
 narrow-size-requires c κs = search needs
 
-mul-shift : tie.Need-mul-shift
-mul-shift c = omega (arith, c .narrow-size .ensures, narrow-size-le (c .before .narrow-tsz .result))
+mul-immediate : tie.Need-mul-immediate
+mul-immediate c = omega (arith, c .narrow-size .ensures, narrow-size-le (c .before .narrow-tsz .result))
 
-mul-shift-2 : tie.Need-mul-shift-2
-mul-shift-2 c = search needs
+mul-immediate-2 : tie.Need-mul-immediate-2
+mul-immediate-2 c = search needs
 
-add-shift : tie.Need-add-shift
-add-shift c = search needs
+add-immediate : tie.Need-add-immediate
+add-immediate c = search needs
 
-sub-shift : tie.Need-sub-shift
-sub-shift c =
+sub-immediate : tie.Need-sub-immediate
+sub-immediate c =
     let w = c .before .before .args .word in
     let e = c .before .narrow-tsz .ensures in
     let t : c .before .narrow-tsz .result < 8 = omega arith in
@@ -39,8 +39,8 @@ uqrshrnb-spec =
     (tie.spec
     narrow-tsz-requires
     narrow-size-requires
-    mul-shift
-    mul-shift-2
-    add-shift
-    sub-shift
+    mul-immediate
+    mul-immediate-2
+    add-immediate
+    sub-immediate
     returns)

@@ -1,4 +1,6 @@
--- `for_dup` meets its contract: features and field condition as the calls answer.
+-- `for_dup` meets its contract: the features as the call answers, and two fields that are not both 0.
+use Prim.Native.Nat.{_/_, _%_}
+use Rattle.decoder.proofs.Cases.{not-both-zero}
 use borrow.Author.Needs.{needs}
 use Rattle.decoder.proofs.layouts.for_dup.Statement.{statement}
 use Rattle.decoder.proofs.layouts.for_dup.Tie as tie
@@ -6,11 +8,8 @@ use Rattle.decoder.proofs.layouts.for_dup.Tie as tie
 has-feature-requires : tie.Need-has-feature-requires
 has-feature-requires c κs = search needs
 
-dup-tsz-requires : tie.Need-dup-tsz-requires
-dup-tsz-requires c κs = search needs
-
 returns : tie.Need-returns
-returns c = rw (c .dup-tsz .ensures, c .before .has-feature .ensures)
+returns c = let w = c .before .args .word in rw (c .has-feature .ensures, not-both-zero 7 (w / 0x400000 % 2) (w / 0x40000 % 8))
 
 pub for-dup-spec : {M : Type 1} → statement M
-for-dup-spec = tie.close (tie.spec has-feature-requires dup-tsz-requires returns)
+for-dup-spec = tie.close (tie.spec has-feature-requires returns)

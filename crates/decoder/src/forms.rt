@@ -1,0 +1,78 @@
+// Fields as the instruction of a form.
+ghost use mathlib.Core.Path.{_≡_};
+ghost use Rattle.setting.specs.Numbers.{accept};
+ghost use Rattle.encoding.specs.Decode.{decodedAs};
+ghost use Rattle.encoding.specs.declared.Instruction.the-variants.{Pext1, Pext2, Luti4c, Luti4s, Uqrshrnb};
+ghost use Rattle.decoder.specs.Operands.{dupAs};
+use crate::DupOperands;
+use crate::Operands;
+use encoding::Decoded;
+use encoding::Instruction;
+
+pub(crate) fn pext1(o: Operands) -> Decoded
+    ensures { λ r. ⌜ decodedAs r ≡ accept (Pext1 (o .size) (o .immediate) (o .source) (o .destination)) ⌝ }
+{
+    Decoded::Fields(Instruction::Pext1 {
+        size: o.size,
+        imm2: o.immediate,
+        counter: o.source,
+        pd: o.destination,
+    })
+}
+
+pub(crate) fn pext2(o: Operands) -> Decoded
+    ensures { λ r. ⌜ decodedAs r ≡ accept (Pext2 (o .size) (o .immediate) (o .source) (o .destination)) ⌝ }
+{
+    Decoded::Fields(Instruction::Pext2 {
+        size: o.size,
+        i1: o.immediate,
+        counter: o.source,
+        pd: o.destination,
+    })
+}
+
+pub(crate) fn luti4c(o: Operands) -> Decoded
+    ensures { λ r. ⌜ decodedAs r ≡ accept (Luti4c (o .size) (o .immediate) (o .source) (o .destination)) ⌝ }
+{
+    Decoded::Fields(Instruction::Luti4c {
+        size: o.size,
+        i1: o.immediate,
+        zn: o.source,
+        zd: o.destination,
+    })
+}
+
+pub(crate) fn luti4s(o: Operands) -> Decoded
+    ensures { λ r. ⌜ decodedAs r ≡ accept (Luti4s (o .size) (o .immediate) (o .source) (o .destination)) ⌝ }
+{
+    Decoded::Fields(Instruction::Luti4s {
+        size: o.size,
+        i1: o.immediate,
+        zn: o.source,
+        zd: o.destination,
+    })
+}
+
+pub(crate) fn uqrshrnb(o: Operands) -> Decoded
+    ensures { λ r. ⌜ decodedAs r ≡ accept (Uqrshrnb (o .size) (o .immediate) (o .source) (o .destination)) ⌝ }
+{
+    Decoded::Fields(Instruction::Uqrshrnb {
+        size: o.size,
+        shift: o.immediate,
+        zn: o.source,
+        zd: o.destination,
+    })
+}
+
+pub(crate) fn dup(o: DupOperands) -> Decoded
+    ensures { λ r. ⌜ decodedAs r ≡ accept (dupAs o) ⌝ }
+{
+    Decoded::Fields(Instruction::Dup {
+        size: o.size,
+        offset: o.offset,
+        index: o.index,
+        pg: o.pg,
+        pn: o.pn,
+        pd: o.pd,
+    })
+}

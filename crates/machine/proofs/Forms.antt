@@ -1,0 +1,102 @@
+-- A word of a known row leaves what a step does: its answer is its needs', and its file the leaf's, or as it was where it is refused.
+use mathlib.Core.Path.{_≡_, refl, sym, ap, _∙_}
+use mathlib.Core.Bool.{Bool}
+use mathlib.Core.List.{List, [], _∷_}
+use Prim.Native.Nat.{ℕ, zero, suc, _+_, _-_, _*_, _/_, _%_, _<_, _≤_}
+use native.Mathlib.Omega.{arith}
+use lib.ListN.{length, getD}
+use Rattle.setting.specs.Allowed.{hasFeature}
+use Rattle.setting.specs.Numbers.{Outcome, accept, refuse, numberOf}
+use Rattle.setting.specs.declared.Setting.{Setting}
+use Rattle.setting.specs.declared.Answer.{Answer}
+use Rattle.setting.specs.declared.Feature.the-variants.{Sve2p1}
+use Rattle.element.specs.Size.{pick}
+use Rattle.encoding.specs.Rows.{rows}
+use Rattle.encoding.specs.Forms.{placeFirst}
+use Rattle.encoding.specs.Decode.{firstOf, readAt}
+use Rattle.encoding.specs.declared.Instruction.{Instruction}
+use Rattle.encoding.specs.declared.Instruction.the-variants.{Pext1, Pext2, Dup, Luti4c, Luti4s, Uqrshrnb}
+use Rattle.encoding.proofs.Choice.{read-past, first-is-read}
+use Rattle.predicate.specs.Pext.{pextLeaves}
+use Rattle.predicate.specs.Dup.{dupLeaves}
+use Rattle.lookup.specs.Calls.{luti4File}
+use Rattle.narrow.specs.Calls.{narrowFile}
+use Rattle.machine.specs.Machine.{Machine, machine, advanced}
+use Rattle.machine.specs.Step.{Step, need, firstFailed, needsOf, stepOf, stepAs}
+use Rattle.machine.specs.Done.{Ready, Checked, Known, PredicateWord, VectorWord, TablelessWord, HasV, HasVS, HasST, HasWV, ifDone, doneOf, executedOf, movedBy}
+use Rattle.machine.specs.declared.Scalars.{Scalars}
+use Rattle.machine.proofs.Steps.{refused-for, done-for, step-executes, step-ready, step-undefined}
+use Rattle.machine.proofs.Operations.{pext1-done, pext2-done, dup-done, luti4c-done, luti4s-done, uqrshrnb-done}
+use Rattle.machine.proofs.Inside.{luti4c-inside, luti4s-inside}
+
+-- ---- what a known row reads is what the word is read as
+first-at : (s : Setting) (w k : ℕ) (o : Outcome Instruction) → k ≡ placeFirst rows (s .features) w → readAt rows k w ≡ o → firstOf rows (s .features) w ≡ o
+first-at s w k o e r = first-is-read rows (s .features) w ∙ ap (λ (j : ℕ). readAt rows j w) (sym e) ∙ r
+
+pub no-row : (s : Setting) (w k : ℕ) (m : Machine) → Known k s w m → 6 ≤ k → _≡_ {A = Step} (record { number = 3; left = m }) (stepOf s w m)
+no-row s w k m h l = step-undefined s w m (h .checked .allowed) (h .checked .files) (first-at s w k (refuse 3) (h .place) (read-past rows k w l))
+
+-- ---- on one file or the other, done or refused
+module _ (s : Setting) (w k : ℕ) (i : Instruction) (read : readAt rows k w ≡ accept i) (z p zt : List ℕ) (c : Scalars) (known : Known k s w (machine z p zt c)) where
+  is-first : firstOf rows (s .features) w ≡ accept i
+  is-first = first-at s w k (accept i) (known .place) read
+
+  pub ready : Ready (length z) (length p) (length zt) (s .vl) i
+  ready = step-ready s w (machine z p zt c) (known .checked .allowed) (known .checked .files) i is-first
+
+  executes : executedOf s i (machine z p zt c) ≡ stepOf s w (machine z p zt c)
+  executes = step-executes s w (machine z p zt c) (known .checked .allowed) (known .checked .files) i is-first
+
+  pub on-predicates : (p′ done : List ℕ) (n : ℕ) → n ≡ firstFailed (needsOf s i c) → p′ ≡ ifDone n done p → machine z done zt c ≡ doneOf (s .vl) i (machine z p zt c)
+      → stepAs n z p′ zt (movedBy n c) ≡ stepOf s w (machine z p zt c)
+  on-predicates p′ done zero a q d = rw q (done-for s i z p zt c z done a d ∙ executes)
+  on-predicates p′ done (suc n) a q d = rw q (refused-for s i z p zt c (suc n) a (λ e. omega arith) ∙ executes)
+
+  pub on-vectors : (z′ done : List ℕ) (n : ℕ) → n ≡ firstFailed (needsOf s i c) → z′ ≡ ifDone n done z → machine done p zt c ≡ doneOf (s .vl) i (machine z p zt c)
+      → stepAs n z′ p zt (movedBy n c) ≡ stepOf s w (machine z p zt c)
+  on-vectors z′ done zero a q d = rw q (done-for s i z p zt c done p a d ∙ executes)
+  on-vectors z′ done (suc n) a q d = rw q (refused-for s i z p zt c (suc n) a (λ e. omega arith) ∙ executes)
+
+-- ---- each form
+module _ (s : Setting) (w : ℕ) (r : Answer) (p p′ : List ℕ) where
+  module _ (v f : Bool) (size immediate counter pd : ℕ) (answer : numberOf r ≡ firstFailed (pick (hasFeature (s .features) Sve2p1) (need 4 v) (need 5 f) ∷ [])) where
+    pub pext1-word : readAt rows 0 w ≡ accept (Pext1 size immediate counter pd) → p′ ≡ ifDone (numberOf r) (pextLeaves (s .vl) size immediate 1 counter pd p) p → PredicateWord 0 s w (HasVS v f) r p p′
+    pext1-word e q z zt c has known =
+        on-predicates s w 0 _ e z p zt c known p′ _ (numberOf r) (rw (has .0, has .1) answer) q
+        (pext1-done z p _ zt c (s .vl) size immediate counter pd (ready s w 0 _ e z p zt c known) refl)
+
+    pub pext2-word : readAt rows 1 w ≡ accept (Pext2 size immediate counter pd) → p′ ≡ ifDone (numberOf r) (pextLeaves (s .vl) size (2 * immediate) 2 counter pd p) p → PredicateWord 1 s w (HasVS v f) r p p′
+    pext2-word e q z zt c has known =
+        on-predicates s w 1 _ e z p zt c known p′ _ (numberOf r) (rw (has .0, has .1) answer) q
+        (pext2-done z p _ zt c (s .vl) size immediate counter pd (ready s w 1 _ e z p zt c known) refl)
+
+  pub dup-word : (w12 w13 w14 w15 : ℕ) (v : Bool) (x size offset index pg pn pd : ℕ) → numberOf r ≡ pick v 0 4 → readAt rows 2 w ≡ accept (Dup size offset index pg pn pd)
+      → x ≡ getD (w12 ∷ w13 ∷ w14 ∷ w15 ∷ []) (index - 12) 0 → p′ ≡ ifDone (numberOf r) (dupLeaves (s .vl) size x offset pg pn pd p) p → PredicateWord 2 s w (HasWV w12 w13 w14 w15 v) r p p′
+  dup-word w12 w13 w14 w15 v x size offset index pg pn pd answer e i q z zt c has known =
+      on-predicates s w 2 _ e z p zt c known p′ _ (numberOf r) (rw (has .4) answer) q
+      (dup-done z p _ zt c (s .vl) size offset index pg pn pd x (ready s w 2 _ e z p zt c known) (rw (has .0, has .1, has .2, has .3) i) refl)
+
+module _ (s : Setting) (w : ℕ) (r : Answer) (z z′ : List ℕ) where
+  module _ (zt : List ℕ) (f t : Bool) (size i1 zn zd : ℕ) (answer : numberOf r ≡ pick f (pick t 0 6) 5) where
+    pub luti4c-word : readAt rows 3 w ≡ accept (Luti4c size i1 zn zd) → z′ ≡ ifDone (numberOf r) (luti4File (s .vl) size i1 zn zd 1 zt z) z → VectorWord 3 s w (HasST f t) r zt z z′
+    luti4c-word e q p c has known =
+        let g = ready s w 3 _ e z p zt c known in
+        on-vectors s w 3 _ e z p zt c known z′ _ (numberOf r) (rw (has .0, has .1, luti4c-inside (s .vl) size i1 zn zd (g .range)) answer) q
+        (luti4c-done z _ p zt c (s .vl) size i1 zn zd g refl)
+
+    pub luti4s-word : readAt rows 4 w ≡ accept (Luti4s size i1 zn zd) → z′ ≡ ifDone (numberOf r) (luti4File (s .vl) size i1 zn zd 4 zt z) z → VectorWord 4 s w (HasST f t) r zt z z′
+    luti4s-word e q p c has known =
+        let g = ready s w 4 _ e z p zt c known in
+        on-vectors s w 4 _ e z p zt c known z′ _ (numberOf r) (rw (has .0, has .1, luti4s-inside (s .vl) size i1 zn zd (g .range)) answer) q
+        (luti4s-done z _ p zt c (s .vl) size i1 zn zd g refl)
+
+  pub uqrshrnb-word : (v : Bool) (size shift zn zd : ℕ) → numberOf r ≡ pick v 0 4 → readAt rows 5 w ≡ accept (Uqrshrnb size shift zn zd)
+      → z′ ≡ ifDone (numberOf r) (narrowFile (s .vl) size shift zn zd z) z → TablelessWord 5 s w (HasV v) r z z′
+  uqrshrnb-word v size shift zn zd answer e q zt p c has known =
+      on-vectors s w 5 _ e z p zt c known z′ _ (numberOf r) (rw has answer) q
+      (uqrshrnb-done z _ p zt c (s .vl) size shift zn zd (ready s w 5 _ e z p zt c known) refl)
+
+-- ---- what is left of a file by an answer that is not 0
+pub kept : (n : ℕ) (done before : List ℕ) → (n ≡ 0 → ⊥) → before ≡ ifDone n done before
+kept zero done before ne = absurd (ne refl)
+kept (suc n) done before ne = refl
