@@ -1,20 +1,16 @@
 -- What a run is in each case that the code meets: what is left of the stretch, stepped from where the loop stands, ends as the whole does.
 use mathlib.Core.Path.{_≡_, refl, sym, ap, _∙_}
-use mathlib.Core.Bool.{true, false}
 use mathlib.Core.List.{List, [], _∷_}
 use Prim.Native.Nat.{ℕ, zero, suc, _+_, _*_, _%_, _^_, _<_, _≤_}
 use native.Mathlib.Numerals.{add-one}
 use native.Mathlib.Omega.{arith}
-use lib.Dec.{leb}
 use lib.ListN.{length, getD, drop, drop-of-length-le}
 use lib.Seq.{drop-cons}
-use borrow.Author.Tests.{le-leb, lt-leb}
-use Rattle.setting.specs.Allowed.{allowedOf}
 use Rattle.setting.specs.declared.Setting.{Setting}
 use Rattle.order.specs.Steps.{Ended, steps}
 use Rattle.machine.specs.Machine.{Machine, machine, advanced}
-use Rattle.machine.specs.Step.{Step, sized, refusalOf, execOf, after, stepOf}
-use Rattle.machine.specs.Run.{undone, runOf}
+use Rattle.machine.specs.Step.{Step, refusalOf, execOf, after, stepOf}
+use Rattle.machine.specs.Run.{refusedBefore, undone, begun, runOf}
 use Rattle.machine.specs.Done.{Checked, movedBy, movedOn}
 use Rattle.machine.specs.declared.Scalars.{Scalars}
 use Rattle.machine.proofs.Steps.{moved-done, moved-not}
@@ -89,36 +85,15 @@ module _ (s : Setting) (words : List ℕ) (i : ℕ) (z p zt : List ℕ) (c d : S
 
 -- ---- before any word
 module _ (s : Setting) (words : List ℕ) (m : Machine) where
-  pub run-not-allowed : allowedOf s ≡ false → undone 1 m ≡ runOf s words m
+  pub run-not-begun : (n : ℕ) → n ≡ refusedBefore s words m → (n ≡ 0 → ⊥) → undone n m ≡ runOf s words m
   unfolding runOf
-  run-not-allowed a = rw a
+  run-not-begun zero e ne = absurd (ne refl)
+  run-not-begun (suc k) e ne = ap (λ (n : ℕ). begun n s words m) e
 
-  module _ (a : allowedOf s ≡ true) where
-    pub run-not-sized : sized m ≡ false → undone 2 m ≡ runOf s words m
-    unfolding runOf
-    run-not-sized h = rw (a, h)
-
-    module _ (h : sized m ≡ true) where
-      pub run-too-long : 256 < length words → undone 8 m ≡ runOf s words m
-      unfolding runOf
-      run-too-long l = rw (a, h, lt-leb (length words) 256 l)
-
-      pub run-begun : length words ≤ 256 → steps (refusalOf s) (execOf s) words 0 m ≡ runOf s words m
-      unfolding runOf
-      run-begun l = rw (a, h, le-leb (length words) 256 l)
+  pub run-begun : 0 ≡ refusedBefore s words m → steps (refusalOf s) (execOf s) words 0 m ≡ runOf s words m
+  unfolding runOf
+  run-begun e = ap (λ (n : ℕ). begun n s words m) e
 
 -- ---- the files keep their lengths
 pub still-checked : (s : Setting) (z p zt z′ p′ : List ℕ) (c c′ : Scalars) → length z′ ≡ length z → length p′ ≡ length p → Checked s (machine z p zt c) → Checked s (machine z′ p′ zt c′)
 still-checked s z p zt z′ p′ c c′ ez ep k = record { allowed = k .allowed; files = rw (ez, ep) (k .files) }
-
--- ---- a stretch of one word is a step
-abbrev pub firstStep : Ended Machine → Step
-firstStep e = record { number = e .answer; left = e .left }
-
-pub one-word : (s : Setting) (w : ℕ) (m : Machine) → firstStep (steps (refusalOf s) (execOf s) (w ∷ []) 0 m) ≡ stepOf s w m
-unfolding steps stepOf
-one-word s w m = go (refusalOf s w m) refl
-  where
-    go : (k : ℕ) → refusalOf s w m ≡ k → firstStep (steps (refusalOf s) (execOf s) (w ∷ []) 0 m) ≡ stepOf s w m
-    go zero e = rw (e, steps)
-    go (suc k) e = rw (e, steps)

@@ -1,39 +1,26 @@
 -- What a step is in each case that the code meets, over plain numbers and lists: what the proofs of the words and of `step` cite.
 use mathlib.Core.Path.{_≡_, refl, sym, ap, _∙_}
-use mathlib.Core.Bool.{true, false, _&&_}
-use mathlib.Core.List.{List}
-use Prim.Native.Nat.{ℕ, zero, suc, _<_}
+use mathlib.Core.Bool.{true, _&&_}
+use mathlib.Core.List.{List, [], _∷_}
+use Prim.Native.Nat.{ℕ, zero, suc, _≤_}
 use native.Mathlib.Omega.{arith}
-use lib.Dec.{eqb}
+use lib.Dec.{eqb, leb}
 use lib.ListN.{length}
-use borrow.Author.Tests.{eqb-true}
+use borrow.Author.Tests.{eqb-true, leb-true}
 use Rattle.setting.specs.Allowed.{lengthAllowed, featuresAllowed, allowedOf}
-use Rattle.setting.specs.Numbers.{Outcome, accept, refuse, numberOf}
+use Rattle.setting.specs.Numbers.{Outcome, accept, refuse}
 use Rattle.setting.specs.declared.Setting.{Setting}
-use Rattle.setting.specs.declared.Answer.{Answer}
-use Rattle.setting.specs.declared.Answer.the-variants.{Done, NotAllowed, WrongLength, Undefined, VectorsClosed, StreamingClosed, TableClosed, IndexPast, TooManyWords, OutOfRange}
 use Rattle.order.specs.Touch.{perform}
 use Rattle.encoding.specs.Rows.{rows}
 use Rattle.encoding.specs.Decode.{firstOf, decodeOf}
 use Rattle.encoding.specs.declared.Instruction.{Instruction}
 use Rattle.element.proofs.Tests.{both-yes}
+use Rattle.encoding.proofs.Apart.{decide}
 use Rattle.encoding.proofs.Round.{read-in-range}
 use Rattle.machine.specs.Machine.{Machine, machine, advanced, next}
-use Rattle.machine.specs.Step.{Step, sized, firstFailed, needsOf, refusalOf, execOf, after, stepOf}
-use Rattle.machine.specs.Done.{Ready, doneOf, executed, executedOf, movedBy}
+use Rattle.machine.specs.Step.{Step, sized, need, firstFailed, needsOf, refusalOf, execOf, after, stepOf}
+use Rattle.machine.specs.Done.{Ready, Checked, doneOf, executed, executedOf, movedBy}
 use Rattle.machine.specs.declared.Scalars.{Scalars}
-
-pub number-small : (a : Answer) → numberOf a < 10
-number-small Done = omega arith
-number-small NotAllowed = omega arith
-number-small WrongLength = omega arith
-number-small Undefined = omega arith
-number-small VectorsClosed = omega arith
-number-small StreamingClosed = omega arith
-number-small TableClosed = omega arith
-number-small IndexPast = omega arith
-number-small TooManyWords = omega arith
-number-small OutOfRange = omega arith
 
 -- ---- an instruction that was read
 module _ (s : Setting) (i : Instruction) (z p zt : List ℕ) (c : Scalars) where
@@ -47,17 +34,25 @@ module _ (s : Setting) (i : Instruction) (z p zt : List ℕ) (c : Scalars) where
   unfolding executedOf next
   done-for z′ p′ e q = ap (λ (x : Machine). record { number = 0; left = next x }) q ∙ ap (λ (n : ℕ). executed n (s .vl) i (machine z p zt c)) e
 
+-- ---- before a word: what is refused before any of some words
+pub checked-before : (s : Setting) (m : Machine) (n : ℕ) → 0 ≡ firstFailed (need 1 (allowedOf s) ∷ need 2 (sized m) ∷ need 8 (leb n 256) ∷ []) → Checked s m × (n ≤ 256)
+checked-before s m n e =
+    decide (allowedOf s)
+    (λ a. decide (sized m)
+    (λ h. decide (leb n 256) (λ l. (record { allowed = a; files = h }, leb-true n 256 l)) (λ l. absurd (omega (arith, rw (a, h, l) at e))))
+    (λ h. absurd (omega (arith, rw (a, h) at e))))
+    (λ a. absurd (omega (arith, rw a at e)))
+
 -- ---- a word
 module _ (s : Setting) (w : ℕ) (m : Machine) where
-  pub step-not-allowed : allowedOf s ≡ false → _≡_ {A = Step} (record { number = 1; left = m }) (stepOf s w m)
+  pub step-not-begun : (n : ℕ) → n ≡ firstFailed (need 1 (allowedOf s) ∷ need 2 (sized m) ∷ need 8 (leb 1 256) ∷ []) → (n ≡ 0 → ⊥) → _≡_ {A = Step} (record { number = n; left = m }) (stepOf s w m)
   unfolding stepOf refusalOf
-  step-not-allowed a = rw a
+  step-not-begun n e ne =
+      decide (allowedOf s)
+      (λ a. decide (sized m) (λ h. absurd (ne (rw (a, h) at e))) (λ h. rw (a, h) (ap (λ (x : ℕ). record { number = x; left = m }) (rw (a, h) at e))))
+      (λ a. rw a (ap (λ (x : ℕ). record { number = x; left = m }) (rw a at e)))
 
   module _ (a : allowedOf s ≡ true) where
-    pub step-not-sized : sized m ≡ false → _≡_ {A = Step} (record { number = 2; left = m }) (stepOf s w m)
-    unfolding stepOf refusalOf
-    step-not-sized h = rw (a, h)
-
     -- under an allowed setting a word is read by the features alone
     read-is : (o : Outcome Instruction) → firstOf rows (s .features) w ≡ o → decodeOf s w ≡ o
     unfolding decodeOf

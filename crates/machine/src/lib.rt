@@ -4,13 +4,15 @@ mod words;
 
 ghost use mathlib.Core.Path.{_≡_};
 ghost use mathlib.Core.Bool.{_&&_};
-ghost use Prim.Native.Nat.{_≤_, _<_};
-ghost use lib.Dec.{eqb};
+ghost use mathlib.Core.List.{[], _∷_};
+ghost use Prim.Native.Nat.{_≤_};
+ghost use lib.Dec.{eqb, leb};
 ghost use Rattle.machine.specs.Machine.{machine, advanced, scalarsOf};
 ghost use lib.ListN.{length};
+ghost use Rattle.setting.specs.Allowed.{allowedOf};
 ghost use Rattle.setting.specs.Numbers.{numberOf};
 ghost use Rattle.order.specs.Steps.{steps};
-ghost use Rattle.machine.specs.Step.{refusalOf, execOf, stepOf, steppedAs};
+ghost use Rattle.machine.specs.Step.{need, firstFailed, refusalOf, execOf, stepOf, steppedAs};
 ghost use Rattle.machine.specs.Run.{runOf, ranAs};
 ghost use Rattle.machine.specs.Done.{Checked, movedBy, steppedBy, movedOn, wentAs};
 ghost use Rattle.machine.specs.Claims.{Claims};
@@ -60,24 +62,6 @@ fn moved_by(answer: Answer, scalars: Scalars) -> Scalars
     advance(scalars)
 }
 
-fn answer_of(number: u32) -> Answer
-    requires { ⌜ number < 10 ⌝ }
-    ensures { λ r. ⌜ numberOf r ≡ number ⌝ }
-{
-    match number {
-        0 => Answer::Done,
-        1 => Answer::NotAllowed,
-        2 => Answer::WrongLength,
-        3 => Answer::Undefined,
-        4 => Answer::VectorsClosed,
-        5 => Answer::StreamingClosed,
-        6 => Answer::TableClosed,
-        7 => Answer::IndexPast,
-        8 => Answer::TooManyWords,
-        _ => Answer::OutOfRange,
-    }
-}
-
 // After so many words that were done.
 fn moved_on(scalars: Scalars, done: u32) -> Scalars
     requires { ⌜ done ≤ 256 ⌝ }
@@ -95,6 +79,22 @@ fn sized(z: usize, p: usize, zt: usize) -> bool
     ensures { λ r. ⌜ r ≡ (eqb z 8192 && eqb p 512 && eqb zt 64) ⌝ }
 {
     (z == 8192) & (p == 512) & (zt == 64)
+}
+
+// What so many words are refused for before any of them: 1, 2 or 8.
+fn before_any(setting: Setting, z: usize, p: usize, zt: usize, words: usize) -> Answer
+    ensures { λ r. ⌜ numberOf r ≡ firstFailed (need 1 (allowedOf setting) ∷ need 2 (eqb z 8192 && eqb p 512 && eqb zt 64) ∷ need 8 (leb words 256) ∷ []) ⌝ }
+{
+    if !setting::allowed(setting) {
+        return Answer::NotAllowed;
+    }
+    if !sized(z, p, zt) {
+        return Answer::WrongLength;
+    }
+    if words > 256 {
+        return Answer::TooManyWords;
+    }
+    Answer::Done
 }
 
 // One word of a run, where the setting is allowed and each file has its length. The scalars come one by one: a record would go
@@ -160,8 +160,7 @@ fn step_alone(
     }
 }
 
-// The words from the first, up to one that is refused; how many were done is left in `done`. The scalars come one by one and
-// the answer goes back as its number: a record or an enum would go through memory, which a step of a short word feels.
+// The words from the first, up to one that is refused; how many were done is left in `done`.
 fn checked_run(
     z: &mut [u8],
     p: &mut [u8],
@@ -177,9 +176,9 @@ fn checked_run(
     setting: Setting,
     words: &[u32],
     done: &mut u32,
-) -> u32
+) -> Answer
     requires { ⌜ Checked setting (machine (now z) (now p) (now zt) (scalarsOf w12 w13 w14 w15 pc v s t)) × (length (now words) ≤ 256) ⌝ }
-    ensures { λ r. ⌜ (wentAs r (now (done .exit)) (now (z .exit)) (now (p .exit)) (now (zt .entry)) (scalarsOf w12 w13 w14 w15 pc v s t) ≡ steps (refusalOf setting) (execOf setting) (now (words .entry)) 0 (machine (now (z .entry)) (now (p .entry)) (now (zt .entry)) (scalarsOf w12 w13 w14 w15 pc v s t))) × (now (done .exit) ≤ 256) × (r < 10) ⌝ }
+    ensures { λ r. ⌜ (wentAs (numberOf r) (now (done .exit)) (now (z .exit)) (now (p .exit)) (now (zt .entry)) (scalarsOf w12 w13 w14 w15 pc v s t) ≡ steps (refusalOf setting) (execOf setting) (now (words .entry)) 0 (machine (now (z .entry)) (now (p .entry)) (now (zt .entry)) (scalarsOf w12 w13 w14 w15 pc v s t))) × (now (done .exit) ≤ 256) ⌝ }
 {
     let mut at = pc;
     let mut n: u32 = 0;
@@ -199,16 +198,15 @@ fn checked_run(
             setting,
             words[n as usize],
         );
-        let number = setting::number(answer);
-        if number != 0 {
+        if setting::number(answer) != 0 {
             *done = n;
-            return number;
+            return answer;
         }
         at = std::num::wrapping_add_u64(at, 4);
         n += 1;
     }
     *done = n;
-    0
+    Answer::Done
 }
 
 // One word. ZT0 is lent for words to come that write it; today it stays.
@@ -222,15 +220,10 @@ pub fn step(
 ) -> Stepped
     ensures { λ r. ⌜ steppedAs r (now (z .exit)) (now (p .exit)) (now (zt .exit)) ≡ stepOf setting word (machine (now (z .entry)) (now (p .entry)) (now (zt .entry)) scalars) ⌝ }
 {
-    if !setting::allowed(setting) {
+    let refused = before_any(setting, z.len(), p.len(), zt.len(), 1);
+    if setting::number(refused) != 0 {
         return Stepped {
-            answer: Answer::NotAllowed,
-            scalars,
-        };
-    }
-    if !sized(z.len(), p.len(), zt.len()) {
-        return Stepped {
-            answer: Answer::WrongLength,
+            answer: refused,
             scalars,
         };
     }
@@ -255,16 +248,6 @@ pub fn step(
     }
 }
 
-fn not_begun(answer: Answer, scalars: Scalars) -> Ran
-    ensures { λ r. ⌜ r ≡ record { answer = answer; done = 0; scalars = scalars } ⌝ }
-{
-    Ran {
-        answer,
-        done: 0,
-        scalars,
-    }
-}
-
 // A stretch of at most 256 words, stepped one after the other; it stops before the first that is refused.
 pub fn run(
     z: &mut [u8],
@@ -276,17 +259,16 @@ pub fn run(
 ) -> Ran
     ensures { λ r. ⌜ ranAs r (now (z .exit)) (now (p .exit)) (now (zt .exit)) ≡ runOf setting (now (words .entry)) (machine (now (z .entry)) (now (p .entry)) (now (zt .entry)) scalars) ⌝ }
 {
-    if !setting::allowed(setting) {
-        return not_begun(Answer::NotAllowed, scalars);
-    }
-    if !sized(z.len(), p.len(), zt.len()) {
-        return not_begun(Answer::WrongLength, scalars);
-    }
-    if words.len() > 256 {
-        return not_begun(Answer::TooManyWords, scalars);
+    let refused = before_any(setting, z.len(), p.len(), zt.len(), words.len());
+    if setting::number(refused) != 0 {
+        return Ran {
+            answer: refused,
+            done: 0,
+            scalars,
+        };
     }
     let mut done: u32 = 0;
-    let number = checked_run(
+    let answer = checked_run(
         z,
         p,
         zt,
@@ -303,7 +285,7 @@ pub fn run(
         &mut done,
     );
     Ran {
-        answer: answer_of(number),
+        answer,
         done: done as usize,
         scalars: moved_on(scalars, done),
     }

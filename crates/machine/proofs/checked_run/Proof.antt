@@ -11,7 +11,6 @@ use Rattle.machine.specs.Machine.{machine, scalarsOf}
 use Rattle.machine.specs.Step.{refusalOf, execOf}
 use Rattle.machine.specs.Done.{Checked, movedOn}
 use Rattle.machine.specs.declared.Scalars.{Scalars}
-use Rattle.machine.proofs.Steps.{number-small}
 use Rattle.machine.proofs.Runs.{moved-on-none, moved-on-once, stopped-unmoved, went-on-moved, ended, still-checked}
 use Rattle.machine.proofs.checked_run.Statement.{statement}
 use Rattle.machine.proofs.checked_run.Tie as tie
@@ -62,7 +61,7 @@ same-length-2 c = c .before .before .before .before .before .before .step-in-run
 returns : tie.Need-returns Inv-loop μ-loop
 returns c = let l = c .before .before .before .before .before .before .before .before .before .before .before .loop in
     let k = c .before .before .before .before .before .before .step-in-run in
-    (rw (c .before .number .ensures) (stopped-unmoved _ _ (l .n) _ _ _ _ _ _ _ (omega arith) (k .ensures) (l .inv .left) _ (l .inv .scalars) (λ h. c .if1 .taken (c .before .number .ensures ∙ h))), omega (arith, l .inv .within, l .inv .short), rw (c .before .number .ensures) (number-small (k .result)))
+    (stopped-unmoved _ _ (l .n) _ _ _ _ _ _ _ (omega arith) (k .ensures) (l .inv .left) _ (l .inv .scalars) (λ h. c .if1 .taken (c .before .number .ensures ∙ h)), omega (arith, l .inv .within, l .inv .short))
 
 wrapping-add-u64-requires : tie.Need-wrapping-add-u64-requires Inv-loop μ-loop
 wrapping-add-u64-requires c κs = search needs
@@ -97,7 +96,7 @@ same-length-4 : tie.Need-same-length-4 Inv-loop μ-loop
 same-length-4 c = c .before .loop .inv .predicates
 
 returns-2 : tie.Need-returns-2 Inv-loop μ-loop
-returns-2 c = let l = c .before .loop in (ended _ _ (l .n) _ _ _ _ _ _ (omega arith) (l .inv .scalars) (l .inv .left), omega (arith, l .inv .within, l .inv .short), omega arith)
+returns-2 c = let l = c .before .loop in (ended _ _ (l .n) _ _ _ _ _ _ (omega arith) (l .inv .scalars) (l .inv .left), omega (arith, l .inv .within, l .inv .short))
 
 pub checked-run-spec : {M : Type 1} → statement M
 checked-run-spec =
