@@ -54,7 +54,7 @@ pub fn step_lent(
 ) -> Answer
     ensures { λ r. ⌜ stepAs (numberOf r) (now (z .exit)) (now (p .exit)) (now (zt .exit)) (now (scalars .exit)) ≡ stepOf setting word (machine (now (z .entry)) (now (p .entry)) (now (zt .entry)) (now (scalars .entry))) ⌝ }
 {
-    let r = machine::step(z, p, zt, *scalars, setting, word);
+    let r = interpreter::step(z, p, zt, *scalars, setting, word);
     *scalars = r.scalars;
     r.answer
 }

@@ -71,7 +71,7 @@ pub extern "C" fn gighull_run(
         s,
         t,
     };
-    let r = machine::run(z, p, zt, scalars, Setting { vl, features }, words);
+    let r = interpreter::run(z, p, zt, scalars, Setting { vl, features }, words);
     let answer = r.answer;
     let left = r.scalars;
     *pc = left.pc;

@@ -143,7 +143,7 @@ fn moved(z: &mut [u8], p: &mut [u8], zt: &mut [u8], asked: Asked, words: &[u32])
                 scalars,
             }
         }
-        Task::Run => machine::run(z, p, zt, scalars, setting, words),
+        Task::Run => interpreter::run(z, p, zt, scalars, setting, words),
     }
 }
 

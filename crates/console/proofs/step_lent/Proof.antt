@@ -54,10 +54,10 @@ use Rattle.machine.proofs.Scalars as T
 use Rattle.machine.proofs.Scalars.Laws as T′
 use Rattle.machine.proofs.Stepped as P
 use Rattle.machine.proofs.Stepped.Laws as P′
-use Rattle.machine.proofs.step as step
-use Rattle.machine.proofs.step.Symbol as step-def
-use Rattle.machine.proofs.step.Symbol.{name as #machine·step}
-use Rattle.machine.proofs.step.Met as step-thm
+use Rattle.interpreter.proofs.step as step
+use Rattle.interpreter.proofs.step.Symbol as step-def
+use Rattle.interpreter.proofs.step.Symbol.{name as #machine·step}
+use Rattle.interpreter.proofs.step.Met as step-thm
 use Rattle.console.proofs.step_lent.Key.{name as #console·step-lent}
 use Rattle.console.proofs.step_lent as step-lent
 use Rattle.console.proofs.step_lent.Statement as stated

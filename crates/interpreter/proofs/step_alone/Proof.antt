@@ -1,0 +1,92 @@
+-- `step_alone` meets its contract, as its twin `step_in_run` does: in each arm the row is known, and its word leaves what a step does.
+use mathlib.Core.Path.{refl, sym, _∙_}
+use native.Mathlib.Omega.{arith}
+use Rattle.machine.proofs.Forms.{no-row}
+use borrow.Author.Needs.{needs}
+use Rattle.interpreter.proofs.step_alone.Statement.{statement}
+use Rattle.interpreter.proofs.step_alone.Tie as tie
+
+row-requires : tie.Need-row-requires
+row-requires c κs = search needs
+
+pext1-requires : tie.Need-pext1-requires
+pext1-requires c κs = search needs
+
+pext2-requires : tie.Need-pext2-requires
+pext2-requires c κs = search needs
+
+dup-requires : tie.Need-dup-requires
+dup-requires c κs = search needs
+
+luti4c-requires : tie.Need-luti4c-requires
+luti4c-requires c κs = search needs
+
+luti4s-requires : tie.Need-luti4s-requires
+luti4s-requires c κs = search needs
+
+uqrshrnb-requires : tie.Need-uqrshrnb-requires
+uqrshrnb-requires c κs = search needs
+
+same-length : tie.Need-same-length
+same-length c = search needs
+
+returns : tie.Need-returns
+returns c = let b = c .before .before .before .before in c .before .before .pext1 .ensures _ _ _ (refl, refl) (record { checked = b .before .before .before .before .before .pre; place = sym (b .match .keys1) ∙ b .before .row .ensures })
+
+same-length-2 : tie.Need-same-length-2
+same-length-2 c = search needs
+
+returns-2 : tie.Need-returns-2
+returns-2 c = let b = c .before .before .before .before in c .before .before .pext2 .ensures _ _ _ (refl, refl) (record { checked = b .before .before .before .before .before .pre; place = sym (b .match .keys2) ∙ b .before .row .ensures })
+
+same-length-3 : tie.Need-same-length-3
+same-length-3 c = search needs
+
+returns-3 : tie.Need-returns-3
+returns-3 c = let b = c .before .before .before .before in c .before .before .dup .ensures _ _ _ (refl, refl, refl, refl, refl) (record { checked = b .before .before .before .before .before .pre; place = sym (b .match .keys3) ∙ b .before .row .ensures })
+
+same-length-4 : tie.Need-same-length-4
+same-length-4 c = search needs
+
+returns-4 : tie.Need-returns-4
+returns-4 c = let b = c .before .before .before .before in c .before .before .luti4c .ensures _ _ (refl, refl) (record { checked = b .before .before .before .before .before .pre; place = sym (b .match .keys4) ∙ b .before .row .ensures })
+
+same-length-5 : tie.Need-same-length-5
+same-length-5 c = search needs
+
+returns-5 : tie.Need-returns-5
+returns-5 c = let b = c .before .before .before .before in c .before .before .luti4s .ensures _ _ (refl, refl) (record { checked = b .before .before .before .before .before .pre; place = sym (b .match .keys5) ∙ b .before .row .ensures })
+
+same-length-6 : tie.Need-same-length-6
+same-length-6 c = search needs
+
+returns-6 : tie.Need-returns-6
+returns-6 c = let b = c .before .before .before .before in c .before .before .uqrshrnb .ensures _ _ _ refl (record { checked = b .before .before .before .before .before .pre; place = sym (b .match .keys6) ∙ b .before .row .ensures })
+
+returns-7 : tie.Need-returns-7
+returns-7 c = no-row _ _ (c .before .row .result) _ (record { checked = c .before .before .before .before .before .pre; place = c .before .row .ensures }) (omega arith)
+
+pub step-alone-spec : {M : Type 1} → statement M
+step-alone-spec =
+    tie.close
+    (tie.spec
+    row-requires
+    pext1-requires
+    pext2-requires
+    dup-requires
+    luti4c-requires
+    luti4s-requires
+    uqrshrnb-requires
+    same-length
+    returns
+    same-length-2
+    returns-2
+    same-length-3
+    returns-3
+    same-length-4
+    returns-4
+    same-length-5
+    returns-5
+    same-length-6
+    returns-6
+    returns-7)

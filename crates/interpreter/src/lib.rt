@@ -1,0 +1,269 @@
+// One step of the machine, and a run of them, on lent files: a word read, its access tested, its operation done, and PC advanced.
+mod access;
+mod words;
+
+ghost use mathlib.Core.Path.{_≡_};
+ghost use mathlib.Core.Bool.{_&&_};
+ghost use mathlib.Core.List.{[], _∷_};
+ghost use Prim.Native.Nat.{_≤_};
+ghost use lib.Dec.{eqb, leb};
+ghost use Rattle.machine.specs.Machine.{machine, advanced, scalarsOf};
+ghost use lib.ListN.{length};
+ghost use Rattle.setting.specs.Allowed.{allowedOf};
+ghost use Rattle.setting.specs.Numbers.{numberOf};
+ghost use Rattle.order.specs.Steps.{steps};
+ghost use Rattle.machine.specs.Step.{need, firstFailed, refusalOf, execOf, stepOf, steppedAs};
+ghost use Rattle.machine.specs.Run.{runOf, ranAs};
+ghost use Rattle.machine.specs.Done.{Checked, movedBy, steppedBy, movedOn, wentAs};
+use machine::Ran;
+use machine::Scalars;
+use machine::Stepped;
+use setting::Answer;
+use setting::Setting;
+
+fn advance(scalars: Scalars) -> Scalars
+    ensures { λ r. ⌜ r ≡ advanced scalars ⌝ }
+{
+    let mut next = scalars;
+    next.pc = std::num::wrapping_add_u64(scalars.pc, 4);
+    next
+}
+
+// PC moves where the word was done.
+fn moved_by(answer: Answer, scalars: Scalars) -> Scalars
+    ensures { λ r. ⌜ r ≡ movedBy (numberOf answer) scalars ⌝ }
+{
+    if setting::number(answer) != 0 {
+        return scalars;
+    }
+    advance(scalars)
+}
+
+// After so many words that were done.
+fn moved_on(scalars: Scalars, done: u32) -> Scalars
+    requires { ⌜ done ≤ 256 ⌝ }
+    ensures { λ r. ⌜ r ≡ movedOn done scalars ⌝ }
+{
+    if done == 0 {
+        return scalars;
+    }
+    let mut next = scalars;
+    next.pc = std::num::wrapping_add_u64(scalars.pc, 4 * (done as u64));
+    next
+}
+
+fn sized(z: usize, p: usize, zt: usize) -> bool
+    ensures { λ r. ⌜ r ≡ (eqb z 8192 && eqb p 512 && eqb zt 64) ⌝ }
+{
+    (z == 8192) & (p == 512) & (zt == 64)
+}
+
+// What so many words are refused for before any of them: 1, 2 or 8.
+fn before_any(setting: Setting, z: usize, p: usize, zt: usize, words: usize) -> Answer
+    ensures { λ r. ⌜ numberOf r ≡ firstFailed (need 1 (allowedOf setting) ∷ need 2 (eqb z 8192 && eqb p 512 && eqb zt 64) ∷ need 8 (leb words 256) ∷ []) ⌝ }
+{
+    if !setting::allowed(setting) {
+        return Answer::NotAllowed;
+    }
+    if !sized(z, p, zt) {
+        return Answer::WrongLength;
+    }
+    if words > 256 {
+        return Answer::TooManyWords;
+    }
+    Answer::Done
+}
+
+// One word of a run, where the setting is allowed and each file has its length. The scalars come one by one: a record would go
+// through memory, which a short word feels.
+fn step_in_run(
+    z: &mut [u8],
+    p: &mut [u8],
+    zt: &[u8],
+    w12: u32,
+    w13: u32,
+    w14: u32,
+    w15: u32,
+    pc: u64,
+    v: bool,
+    s: bool,
+    t: bool,
+    setting: Setting,
+    word: u32,
+) -> Answer
+    requires { ⌜ Checked setting (machine (now z) (now p) (now zt) (scalarsOf w12 w13 w14 w15 pc v s t)) ⌝ }
+    ensures { λ r. ⌜ steppedBy r (now (z .exit)) (now (p .exit)) (now (zt .entry)) (scalarsOf w12 w13 w14 w15 pc v s t) ≡ stepOf setting word (machine (now (z .entry)) (now (p .entry)) (now (zt .entry)) (scalarsOf w12 w13 w14 w15 pc v s t)) ⌝ }
+{
+    let row = decoder::row(setting.features, word);
+    match row {
+        0 => words::pext1(p, setting, v, s, word),
+        1 => words::pext2(p, setting, v, s, word),
+        2 => words::dup(p, setting, w12, w13, w14, w15, v, word),
+        3 => words::luti4c(z, zt, setting, s, t, word),
+        4 => words::luti4s(z, zt, setting, s, t, word),
+        5 => words::uqrshrnb(z, setting, v, word),
+        _ => Answer::Undefined,
+    }
+}
+
+// The same for a word alone: with one caller each, the compiler puts the one into the loop and the other into `step`.
+fn step_alone(
+    z: &mut [u8],
+    p: &mut [u8],
+    zt: &[u8],
+    w12: u32,
+    w13: u32,
+    w14: u32,
+    w15: u32,
+    pc: u64,
+    v: bool,
+    s: bool,
+    t: bool,
+    setting: Setting,
+    word: u32,
+) -> Answer
+    requires { ⌜ Checked setting (machine (now z) (now p) (now zt) (scalarsOf w12 w13 w14 w15 pc v s t)) ⌝ }
+    ensures { λ r. ⌜ steppedBy r (now (z .exit)) (now (p .exit)) (now (zt .entry)) (scalarsOf w12 w13 w14 w15 pc v s t) ≡ stepOf setting word (machine (now (z .entry)) (now (p .entry)) (now (zt .entry)) (scalarsOf w12 w13 w14 w15 pc v s t)) ⌝ }
+{
+    let row = decoder::row(setting.features, word);
+    match row {
+        0 => words::pext1(p, setting, v, s, word),
+        1 => words::pext2(p, setting, v, s, word),
+        2 => words::dup(p, setting, w12, w13, w14, w15, v, word),
+        3 => words::luti4c(z, zt, setting, s, t, word),
+        4 => words::luti4s(z, zt, setting, s, t, word),
+        5 => words::uqrshrnb(z, setting, v, word),
+        _ => Answer::Undefined,
+    }
+}
+
+// The words from the first, up to one that is refused; how many were done is left in `done`.
+fn checked_run(
+    z: &mut [u8],
+    p: &mut [u8],
+    zt: &[u8],
+    w12: u32,
+    w13: u32,
+    w14: u32,
+    w15: u32,
+    pc: u64,
+    v: bool,
+    s: bool,
+    t: bool,
+    setting: Setting,
+    words: &[u32],
+    done: &mut u32,
+) -> Answer
+    requires { ⌜ Checked setting (machine (now z) (now p) (now zt) (scalarsOf w12 w13 w14 w15 pc v s t)) × (length (now words) ≤ 256) ⌝ }
+    ensures { λ r. ⌜ (wentAs (numberOf r) (now (done .exit)) (now (z .exit)) (now (p .exit)) (now (zt .entry)) (scalarsOf w12 w13 w14 w15 pc v s t) ≡ steps (refusalOf setting) (execOf setting) (now (words .entry)) 0 (machine (now (z .entry)) (now (p .entry)) (now (zt .entry)) (scalarsOf w12 w13 w14 w15 pc v s t))) × (now (done .exit) ≤ 256) ⌝ }
+{
+    let mut at = pc;
+    let mut n: u32 = 0;
+    while (n as usize) < words.len() {
+        let answer = step_in_run(
+            &mut *z,
+            &mut *p,
+            zt,
+            w12,
+            w13,
+            w14,
+            w15,
+            at,
+            v,
+            s,
+            t,
+            setting,
+            words[n as usize],
+        );
+        if setting::number(answer) != 0 {
+            *done = n;
+            return answer;
+        }
+        at = std::num::wrapping_add_u64(at, 4);
+        n += 1;
+    }
+    *done = n;
+    Answer::Done
+}
+
+// One word. ZT0 is lent for words to come that write it; today it stays.
+pub fn step(
+    z: &mut [u8],
+    p: &mut [u8],
+    zt: &mut [u8],
+    scalars: Scalars,
+    setting: Setting,
+    word: u32,
+) -> Stepped
+    ensures { λ r. ⌜ steppedAs r (now (z .exit)) (now (p .exit)) (now (zt .exit)) ≡ stepOf setting word (machine (now (z .entry)) (now (p .entry)) (now (zt .entry)) scalars) ⌝ }
+{
+    let refused = before_any(setting, z.len(), p.len(), zt.len(), 1);
+    if setting::number(refused) != 0 {
+        return Stepped {
+            answer: refused,
+            scalars,
+        };
+    }
+    let answer = step_alone(
+        z,
+        p,
+        zt,
+        scalars.w12,
+        scalars.w13,
+        scalars.w14,
+        scalars.w15,
+        scalars.pc,
+        scalars.v,
+        scalars.s,
+        scalars.t,
+        setting,
+        word,
+    );
+    Stepped {
+        answer,
+        scalars: moved_by(answer, scalars),
+    }
+}
+
+// A stretch of at most 256 words, stepped one after the other; it stops before the first that is refused.
+pub fn run(
+    z: &mut [u8],
+    p: &mut [u8],
+    zt: &mut [u8],
+    scalars: Scalars,
+    setting: Setting,
+    words: &[u32],
+) -> Ran
+    ensures { λ r. ⌜ ranAs r (now (z .exit)) (now (p .exit)) (now (zt .exit)) ≡ runOf setting (now (words .entry)) (machine (now (z .entry)) (now (p .entry)) (now (zt .entry)) scalars) ⌝ }
+{
+    let refused = before_any(setting, z.len(), p.len(), zt.len(), words.len());
+    if setting::number(refused) != 0 {
+        return Ran {
+            answer: refused,
+            done: 0,
+            scalars,
+        };
+    }
+    let mut done: u32 = 0;
+    let answer = checked_run(
+        z,
+        p,
+        zt,
+        scalars.w12,
+        scalars.w13,
+        scalars.w14,
+        scalars.w15,
+        scalars.pc,
+        scalars.v,
+        scalars.s,
+        scalars.t,
+        setting,
+        words,
+        &mut done,
+    );
+    Ran {
+        answer,
+        done: done as usize,
+        scalars: moved_on(scalars, done),
+    }
+}

@@ -1,0 +1,213 @@
+// One word of each form, where the place of its row is known: its fields are read, its access is tested, and its operation is
+// done on the file that it is lent. PC is left to the caller.
+ghost use mathlib.Core.Path.{_≡_};
+ghost use mathlib.Core.List.{[], _∷_};
+ghost use Prim.Native.Nat.{_-_, _≤_, _<_};
+ghost use lib.ListN.{getD};
+ghost use Rattle.element.specs.Size.{pick};
+ghost use Rattle.setting.specs.Allowed.{hasFeature};
+ghost use Rattle.setting.specs.Numbers.{numberOf};
+ghost use Rattle.setting.specs.declared.Feature.the-variants.{Sve2p1};
+ghost use Rattle.predicate.specs.Pext.{pextLeaves};
+ghost use Rattle.predicate.specs.Dup.{dupLeaves};
+ghost use Rattle.lookup.specs.Calls.{luti4File};
+ghost use Rattle.narrow.specs.Calls.{narrowFile};
+ghost use Rattle.machine.specs.Step.{need, firstFailed};
+ghost use Rattle.machine.specs.Done.{PredicateWord, VectorWord, TablelessWord, HasV, HasVS, HasST, HasWV, ifDone};
+use crate::access;
+use setting::Answer;
+use setting::Setting;
+
+// ---- the predicates
+pub(crate) fn pext1(p: &mut [u8], setting: Setting, v: bool, s: bool, word: u32) -> Answer
+    ensures { λ r. ⌜ PredicateWord 0 setting word (HasVS v s) r (now (p .entry)) (now (p .exit)) ⌝ }
+{
+    let answer = access::predicates(setting.features, v, s);
+    if setting::number(answer) != 0 {
+        return answer;
+    }
+    let o = decoder::operands_at(0, word);
+    predicate::pext(
+        p,
+        setting.vl,
+        o.size,
+        o.immediate,
+        1,
+        o.source,
+        o.destination,
+    );
+    Answer::Done
+}
+
+pub(crate) fn pext2(p: &mut [u8], setting: Setting, v: bool, s: bool, word: u32) -> Answer
+    ensures { λ r. ⌜ PredicateWord 1 setting word (HasVS v s) r (now (p .entry)) (now (p .exit)) ⌝ }
+{
+    let answer = access::predicates(setting.features, v, s);
+    if setting::number(answer) != 0 {
+        return answer;
+    }
+    let o = decoder::operands_at(1, word);
+    predicate::pext(
+        p,
+        setting.vl,
+        o.size,
+        2 * o.immediate,
+        2,
+        o.source,
+        o.destination,
+    );
+    Answer::Done
+}
+
+// W12 to W15.
+fn index_register(w12: u32, w13: u32, w14: u32, w15: u32, number: u32) -> u32
+    requires { ⌜ (12 ≤ number) × (number < 16) ⌝ }
+    ensures { λ r. ⌜ r ≡ getD (w12 ∷ w13 ∷ w14 ∷ w15 ∷ []) (number - 12) 0 ⌝ }
+{
+    match number {
+        12 => w12,
+        13 => w13,
+        14 => w14,
+        _ => w15,
+    }
+}
+
+fn duplicate(
+    p: &mut [u8],
+    vl: u32,
+    v: bool,
+    w: u32,
+    size: u32,
+    offset: u32,
+    pg: u32,
+    pn: u32,
+    pd: u32,
+) -> Answer
+    ensures answer { λ r. ⌜ numberOf r ≡ pick v 0 4 ⌝ }
+    ensures file { λ r. ⌜ now (p .exit) ≡ ifDone (numberOf r) (dupLeaves vl size w offset pg pn pd (now (p .entry))) (now (p .entry)) ⌝ }
+{
+    let answer = access::vectors(v);
+    if setting::number(answer) != 0 {
+        return answer;
+    }
+    predicate::dup(p, vl, size, w, offset, pg, pn, pd);
+    Answer::Done
+}
+
+pub(crate) fn dup(
+    p: &mut [u8],
+    setting: Setting,
+    w12: u32,
+    w13: u32,
+    w14: u32,
+    w15: u32,
+    v: bool,
+    word: u32,
+) -> Answer
+    ensures { λ r. ⌜ PredicateWord 2 setting word (HasWV w12 w13 w14 w15 v) r (now (p .entry)) (now (p .exit)) ⌝ }
+{
+    let o = decoder::operands_of_dup(word);
+    let w = index_register(w12, w13, w14, w15, o.index);
+    duplicate(p, setting.vl, v, w, o.size, o.offset, o.pg, o.pn, o.pd)
+}
+
+// ---- the vectors
+fn look_up(
+    z: &mut [u8],
+    zt: &[u8],
+    vl: u32,
+    s: bool,
+    t: bool,
+    size: u32,
+    i1: u32,
+    zn: u32,
+    first: u32,
+    stride: u32,
+) -> Answer
+    ensures answer { λ r. ⌜ numberOf r ≡ pick s (pick t 0 6) 5 ⌝ }
+    ensures file { λ r. ⌜ now (z .exit) ≡ ifDone (numberOf r) (luti4File vl size i1 zn first stride (now (zt .entry)) (now (z .entry))) (now (z .entry)) ⌝ }
+{
+    let answer = access::table(s, t);
+    if setting::number(answer) != 0 {
+        return answer;
+    }
+    lookup::luti4(z, zt, vl, size, i1, zn, first, stride);
+    Answer::Done
+}
+
+pub(crate) fn luti4c(
+    z: &mut [u8],
+    zt: &[u8],
+    setting: Setting,
+    s: bool,
+    t: bool,
+    word: u32,
+) -> Answer
+    ensures { λ r. ⌜ VectorWord 3 setting word (HasST s t) r (now (zt .entry)) (now (z .entry)) (now (z .exit)) ⌝ }
+{
+    let o = decoder::operands_at(3, word);
+    look_up(
+        z,
+        zt,
+        setting.vl,
+        s,
+        t,
+        o.size,
+        o.immediate,
+        o.source,
+        o.destination,
+        1,
+    )
+}
+
+pub(crate) fn luti4s(
+    z: &mut [u8],
+    zt: &[u8],
+    setting: Setting,
+    s: bool,
+    t: bool,
+    word: u32,
+) -> Answer
+    ensures { λ r. ⌜ VectorWord 4 setting word (HasST s t) r (now (zt .entry)) (now (z .entry)) (now (z .exit)) ⌝ }
+{
+    let o = decoder::operands_at(4, word);
+    look_up(
+        z,
+        zt,
+        setting.vl,
+        s,
+        t,
+        o.size,
+        o.immediate,
+        o.source,
+        o.destination,
+        4,
+    )
+}
+
+fn narrowed(z: &mut [u8], vl: u32, v: bool, size: u32, shift: u32, zn: u32, zd: u32) -> Answer
+    ensures answer { λ r. ⌜ numberOf r ≡ pick v 0 4 ⌝ }
+    ensures file { λ r. ⌜ now (z .exit) ≡ ifDone (numberOf r) (narrowFile vl size shift zn zd (now (z .entry))) (now (z .entry)) ⌝ }
+{
+    let answer = access::vectors(v);
+    if setting::number(answer) != 0 {
+        return answer;
+    }
+    narrow::uqrshrnb(z, vl, size, shift, zn, zd);
+    Answer::Done
+}
+
+pub(crate) fn uqrshrnb(z: &mut [u8], setting: Setting, v: bool, word: u32) -> Answer
+    ensures { λ r. ⌜ TablelessWord 5 setting word (HasV v) r (now (z .entry)) (now (z .exit)) ⌝ }
+{
+    let o = decoder::operands_at(5, word);
+    narrowed(
+        z,
+        setting.vl,
+        v,
+        o.size,
+        o.immediate,
+        o.source,
+        o.destination,
+    )
+}
