@@ -141,6 +141,15 @@ pub fn dup(p: &mut [u8], vl: u32, size: u32, w: u32, offset: u32, pg: u32, pn: u
     if !can_dup(p.len(), vl, size, offset, pg, pn, pd) {
         return false;
     }
+    // literal lengths, so that LLVM makes straight code for them
+    if vl == 128 {
+        duplicate(p, 128, size, w, offset, pg, pn, pd);
+        return true;
+    }
+    if vl == 2048 {
+        duplicate(p, 2048, size, w, offset, pg, pn, pd);
+        return true;
+    }
     duplicate(p, vl, size, w, offset, pg, pn, pd);
     true
 }
