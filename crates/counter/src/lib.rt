@@ -67,7 +67,8 @@ fn edge(z: u32, inv: bool, d: u32) -> u8
     low & element::pattern_of(z)
 }
 
-fn paint(o: &mut [u8], v: u8)
+// Each byte v.
+pub fn paint(o: &mut [u8], v: u8)
     ensures { λ _. ⌜ now (o .exit) ≡ fill (λ k. v) 1 (length (now (o .entry))) ⌝ }
 {
     let mut k: usize = 0;
@@ -132,6 +133,13 @@ pub fn expand(c: Counter, vl: u32) -> Mask
         strip(c, vl, 0, 0, &mut m[..n]);
     }
     Mask(m)
+}
+
+// Whether the counter says no size: all its elements are false.
+pub fn none(c: Counter) -> bool
+    ensures { λ r. ⌜ r ≡ eqb (c .0 % 16) 0 ⌝ }
+{
+    c.0 % 16 == 0
 }
 
 // Sixty-four bits, of which every 2^z-th is 1.

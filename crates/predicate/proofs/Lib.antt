@@ -3,3 +3,4 @@ pub mod Portions
 pub mod Elements
 pub mod BoardPoints
 pub mod Pairs
+pub mod Clearing

@@ -2,14 +2,16 @@
 mod governed;
 
 ghost use mathlib.Core.Path.{_≡_};
-ghost use Prim.Native.Nat.{_+_, _*_, _/_, _^_};
+ghost use mathlib.Core.Bool.{true};
+ghost use Prim.Native.Nat.{_+_, _*_, _/_, _%_, _^_};
 ghost use lib.ListN.{length};
-ghost use Rattle.element.specs.Contents.{bytes, elem};
+ghost use Rattle.setting.specs.Allowed.{lengthAllowed};
+ghost use Rattle.element.specs.Contents.{bytes, elem, fill};
 ghost use Rattle.element.specs.Slots.{slot, setSlot};
 ghost use Rattle.counter.specs.Portion.{portionOf};
 ghost use Rattle.predicate.specs.Pext.{pextReady, pextLeaves};
 ghost use Rattle.predicate.specs.Dup.{dupOf, dupReady, dupLeaves};
-ghost use Rattle.predicate.specs.Operands.{Register, Portion, Pair, Registers};
+ghost use Rattle.predicate.specs.Operands.{Register, Portion, Pair, Room, Clears, clearSlots, Registers};
 ghost use Rattle.predicate.specs.Points.{Claims};
 use counter::Counter;
 
@@ -90,6 +92,72 @@ fn short_pext(p: &mut [u8], size: u32, first: u32, portions: u32, pn: u32, pd: u
     true
 }
 
+// The low n bytes of Pd become 0.
+fn blank(p: &mut [u8], n: usize, pd: u32)
+    requires { ⌜ Room (length (now p)) n pd ⌝ }
+    ensures { λ _. ⌜ now (p .exit) ≡ setSlot 32 n pd (fill (λ k. 0) 1 n) (now (p .entry)) ⌝ }
+{
+    let d = 32 * (pd as usize);
+    let e = d + n;
+    counter::paint(&mut p[d..e], 0);
+}
+
+// The low n bytes of Pd, or of Pd and the next.
+fn clear(p: &mut [u8], n: usize, portions: u32, pd: u32)
+    requires { ⌜ Clears (length (now p)) n portions pd ⌝ }
+    ensures { λ _. ⌜ now (p .exit) ≡ clearSlots n pd portions (now (p .entry)) ⌝ }
+{
+    blank(p, n, pd);
+    if portions == 2 {
+        blank(p, n, (pd + 1) % 16);
+    }
+}
+
+// The number of bytes is a literal, so that LLVM stores them without a call; by `<`, so that it makes no jump by a table.
+fn clear_by(p: &mut [u8], vl: u32, portions: u32, pd: u32)
+    requires { ⌜ (lengthAllowed vl ≡ true) × Clears (length (now p)) (vl / 64) portions pd ⌝ }
+    ensures { λ _. ⌜ now (p .exit) ≡ clearSlots (vl / 64) pd portions (now (p .entry)) ⌝ }
+{
+    if vl < 512 {
+        if vl < 256 {
+            clear(p, 2, portions, pd)
+        } else {
+            clear(p, 4, portions, pd)
+        }
+    } else if vl < 1024 {
+        clear(p, 8, portions, pd)
+    } else if vl < 2048 {
+        clear(p, 16, portions, pd)
+    } else {
+        clear(p, 32, portions, pd)
+    }
+}
+
+// A counter that says no size: its portions are 0.
+fn clear_pext(p: &mut [u8], vl: u32, size: u32, first: u32, portions: u32, pn: u32, pd: u32) -> bool
+    requires { ⌜ elem 2 0 (slot 32 2 pn (now p)) % 16 ≡ 0 ⌝ }
+    ensures answer { λ r. ⌜ r ≡ pextReady (length (now (p .entry))) vl size first portions pn pd ⌝ }
+    ensures file { λ _. ⌜ now (p .exit) ≡ pextLeaves vl size first portions pn pd (now (p .entry)) ⌝ }
+{
+    let ready = can_pext(p.len(), vl, size, first, portions, pn, pd);
+    if ready {
+        clear_by(p, vl, portions, pd);
+    }
+    ready
+}
+
+// Whether Pn is in the file and has such a counter.
+fn says_nothing(p: &[u8], pn: u32) -> bool
+    ensures { λ r. ⌜ (r ≡ true → elem 2 0 (slot 32 2 pn (now (p .entry))) % 16 ≡ 0) ⌝ }
+{
+    let a = 32 * (pn as usize);
+    let b = a + 2;
+    if p.len() < b {
+        return false;
+    }
+    counter::none(counter::counter_of(&p[a..b]))
+}
+
 // PEXT: portions `first` and on, one or two, to Pd and the next. False, and the file as it was, for operands outside their ranges.
 // `long_pext` is called at two places, which keeps LLVM from taking it in here: VL 128 then saves no registers for it.
 pub fn pext(p: &mut [u8], vl: u32, size: u32, first: u32, portions: u32, pn: u32, pd: u32) -> bool
@@ -98,6 +166,9 @@ pub fn pext(p: &mut [u8], vl: u32, size: u32, first: u32, portions: u32, pn: u32
 {
     if vl == 128 {
         return short_pext(p, size, first, portions, pn, pd);
+    }
+    if says_nothing(p, pn) {
+        return clear_pext(p, vl, size, first, portions, pn, pd);
     }
     if vl == 2048 {
         return long_pext(p, 2048, size, first, portions, pn, pd);
@@ -144,6 +215,10 @@ pub fn dup(p: &mut [u8], vl: u32, size: u32, w: u32, offset: u32, pg: u32, pn: u
     // literal lengths, so that LLVM makes straight code for them
     if vl == 128 {
         duplicate(p, 128, size, w, offset, pg, pn, pd);
+        return true;
+    }
+    if vl == 512 {
+        duplicate(p, 512, size, w, offset, pg, pn, pd);
         return true;
     }
     if vl == 2048 {

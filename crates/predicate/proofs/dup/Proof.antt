@@ -62,24 +62,34 @@ unfolding left
 returns-2 c = let t = c .before .before .before .before in worked (t .before) 128 _ (t .if2 .taken) (c .before .before .duplicate .ensures)
 
 duplicate-requires-2 : tie.Need-duplicate-requires-2
-duplicate-requires-2 c κs = ready (c .before .before .before) 2048 (c .before .if3 .taken)
+duplicate-requires-2 c κs = ready (c .before .before .before) 512 (c .before .if3 .taken)
 
 same-length-2 : tie.Need-same-length-2
 same-length-2 c = search needs
 
 returns-3 : tie.Need-returns-3
 unfolding left
-returns-3 c = let t = c .before .before .before .before in worked (t .before .before) 2048 _ (t .if3 .taken) (c .before .before .duplicate2 .ensures)
+returns-3 c = let t = c .before .before .before .before in worked (t .before .before) 512 _ (t .if3 .taken) (c .before .before .duplicate2 .ensures)
 
 duplicate-requires-3 : tie.Need-duplicate-requires-3
-duplicate-requires-3 c κs = ready (c .before .before .before) _ refl
+duplicate-requires-3 c κs = ready (c .before .before .before .before) 2048 (c .before .if4 .taken)
 
 same-length-3 : tie.Need-same-length-3
 same-length-3 c = search needs
 
 returns-4 : tie.Need-returns-4
 unfolding left
-returns-4 c = let t = c .before .before .before .before in worked (t .before .before) _ _ refl (c .before .before .duplicate3 .ensures)
+returns-4 c = let t = c .before .before .before .before in worked (t .before .before .before) 2048 _ (t .if4 .taken) (c .before .before .duplicate3 .ensures)
+
+duplicate-requires-4 : tie.Need-duplicate-requires-4
+duplicate-requires-4 c κs = ready (c .before .before .before .before) _ refl
+
+same-length-4 : tie.Need-same-length-4
+same-length-4 c = search needs
+
+returns-5 : tie.Need-returns-5
+unfolding left
+returns-5 c = let t = c .before .before .before .before in worked (t .before .before .before) _ _ refl (c .before .before .duplicate4 .ensures)
 
 pub dup-spec : {M : Type 1} → statement M
 dup-spec =
@@ -95,4 +105,7 @@ dup-spec =
     returns-3
     duplicate-requires-3
     same-length-3
-    returns-4)
+    returns-4
+    duplicate-requires-4
+    same-length-4
+    returns-5)

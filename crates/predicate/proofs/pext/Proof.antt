@@ -1,4 +1,4 @@
--- `pext` meets its contract: VL 128 apart, and the others.
+-- `pext` meets its contract: VL 128 apart, then a counter that says no size, and the others.
 use borrow.Author.Needs.{needs}
 use Rattle.predicate.proofs.pext.Statement.{statement}
 use Rattle.predicate.proofs.pext.Tie as tie
@@ -12,23 +12,35 @@ same-length c = search needs
 returns : tie.Need-returns
 returns c = rw (c .before .before .before .before .if1 .taken) (c .before .before .short-pext .ensures)
 
-long-pext-requires : tie.Need-long-pext-requires
-long-pext-requires c κs = search needs
+says-nothing-requires : tie.Need-says-nothing-requires
+says-nothing-requires c κs = search needs
+
+clear-pext-requires : tie.Need-clear-pext-requires
+clear-pext-requires c κs = c .before .before .says-nothing .ensures (c .before .if2 .taken)
 
 same-length-2 : tie.Need-same-length-2
 same-length-2 c = search needs
 
 returns-2 : tie.Need-returns-2
-returns-2 c = rw (c .before .before .before .before .if2 .taken) (c .before .before .long-pext .ensures)
+returns-2 c = search needs
 
-long-pext-requires-2 : tie.Need-long-pext-requires-2
-long-pext-requires-2 c κs = search needs
+long-pext-requires : tie.Need-long-pext-requires
+long-pext-requires c κs = search needs
 
 same-length-3 : tie.Need-same-length-3
 same-length-3 c = search needs
 
 returns-3 : tie.Need-returns-3
-returns-3 c = search needs
+returns-3 c = rw (c .before .before .before .before .if3 .taken) (c .before .before .long-pext .ensures)
+
+long-pext-requires-2 : tie.Need-long-pext-requires-2
+long-pext-requires-2 c κs = search needs
+
+same-length-4 : tie.Need-same-length-4
+same-length-4 c = search needs
+
+returns-4 : tie.Need-returns-4
+returns-4 c = search needs
 
 pub pext-spec : {M : Type 1} → statement M
 pext-spec =
@@ -37,9 +49,13 @@ pext-spec =
     short-pext-requires
     same-length
     returns
-    long-pext-requires
+    says-nothing-requires
+    clear-pext-requires
     same-length-2
     returns-2
-    long-pext-requires-2
+    long-pext-requires
     same-length-3
-    returns-3)
+    returns-3
+    long-pext-requires-2
+    same-length-4
+    returns-4)
