@@ -15,8 +15,8 @@ returns c = rw (c .before .before .before .before .if1 .taken) (c .before .befor
 says-nothing-requires : tie.Need-says-nothing-requires
 says-nothing-requires c κs = search needs
 
-clear-pext-requires : tie.Need-clear-pext-requires
-clear-pext-requires c κs = c .before .before .says-nothing .ensures (c .before .if2 .taken)
+clear-at-requires : tie.Need-clear-at-requires
+clear-at-requires c κs = c .before .before .says-nothing .ensures (c .before .if2 .taken)
 
 same-length-2 : tie.Need-same-length-2
 same-length-2 c = search needs
@@ -50,7 +50,7 @@ pext-spec =
     same-length
     returns
     says-nothing-requires
-    clear-pext-requires
+    clear-at-requires
     same-length-2
     returns-2
     long-pext-requires
