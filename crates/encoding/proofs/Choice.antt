@@ -2,11 +2,11 @@
 use mathlib.Core.Path.{_≡_, refl, sym, ap}
 use mathlib.Core.Bool.{Bool, true, false, _&&_}
 use mathlib.Core.List.{List, [], _∷_}
-use Prim.Native.Nat.{ℕ, zero, suc, _≤_, _<_}
+use Prim.Native.Nat.{ℕ, zero, suc, _≤_}
 use native.Mathlib.Omega.{arith}
 use lib.Dec.{T}
 use lib.ListN.{length}
-use Rattle.setting.specs.Numbers.{Outcome, accept, refuse}
+use Rattle.setting.specs.Numbers.{accept, refuse}
 use Rattle.element.proofs.Below.{both}
 use Rattle.encoding.specs.Layout.{fieldsOf, matches}
 use Rattle.encoding.specs.Rows.{Row, rowMatches}
@@ -42,13 +42,6 @@ pub first-is-read : (rs : List Row) (f w : ℕ) → firstOf rs f w ≡ readAt rs
 unfolding placeFirst
 first-is-read [] f w = refl
 first-is-read (r ∷ rs) f w = decide (rowMatches r f w) (λ m. simp m) (λ m. simp m (first-is-read rs f w))
-
-pub first-matches : (rs : List Row) (k f w : ℕ) → k < length rs → k ≡ placeFirst rs f w → matchesAt rs k f w ≡ true
-unfolding placeFirst
-first-matches [] k f w h e = absurd (omega arith)
-first-matches (r ∷ rs) zero f w h e = decide (rowMatches r f w) (λ m. m) (λ m. absurd (omega (arith, simp m at e)))
-first-matches (r ∷ rs) (suc k) f w h e =
-    decide (rowMatches r f w) (λ m. absurd (omega (arith, simp m at e))) (λ m. first-matches rs k f w (omega arith) (omega (arith, simp m at e)))
 
 own-sound : (r : Row) (rs : List Row) → T (apartFrom r rs) → T (sound (r .layout))
 own-sound r [] a = a
@@ -119,10 +112,3 @@ accepted-by C f w (r ∷ rs) p i e =
     decide (rowMatches r f w)
     (λ m. let a = simp m at e in let b : r .reading (fieldsOf (r .layout) w) ≡ i = cc in rw (sym b) (p .0 m))
     (λ m. accepted-by C f w rs (p .1) i (simp m at e))
-
-pub first-three : (rs : List Row) (f w n : ℕ) → firstOf rs f w ≡ refuse n → n ≡ 3
-first-three [] f w n e = cc
-first-three (r ∷ rs) f w n e =
-    decide (rowMatches r f w)
-    (λ m. let a = simp m at e in let z : _≡_ {A = ℕ} 0 1 = cc in absurd (omega arith))
-    (λ m. first-three rs f w n (simp m at e))

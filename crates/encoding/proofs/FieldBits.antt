@@ -5,7 +5,7 @@ use Prim.Native.Nat.{ℕ, zero, suc, _+_, _-_, _*_, _%_, _/_, _^_, _<_, _≤_}
 use native.Mathlib.Omega.{arith}
 use lib.Dec.{T, eqb, ltb, leb, lit<, lit≤, ltb→lt, eqb→eq}
 use lib.Count.{trailingZeros}
-use borrow.Author.Tests.{eqb-true, ltb-true, leb-true, lt-ltb, le-ltb, le-leb, not-true}
+use borrow.Author.Tests.{eqb-true, ltb-true, leb-true, lt-ltb, le-ltb, le-leb}
 use Rattle.element.specs.Size.{sizeOf, isSize, isResult}
 use Rattle.element.specs.Units.{logOf}
 use Rattle.element.proofs.Below.{both, is-true, below}
@@ -71,15 +71,6 @@ dup-read t h n =
 
 pub some-size : (n : ℕ) → isSize n ≡ true → 0 < n
 some-size = size-cases (λ n. 0 < n) (lit< tt) (lit< tt) (lit< tt) (lit< tt)
-
--- a size that the bits say divides by 4 to no 0
-some-quarter : (n : ℕ) → isSize n ≡ true → 0 < n / 4
-some-quarter = size-cases (λ n. 0 < n / 4) (lit< tt) (lit< tt) (lit< tt) (lit< tt)
-
-pub dup-divisor : (i b : ℕ) → i < 2 → b < 16 → not (eqb b 0) ≡ true → 0 < sizeOf (i * 16 + b) / 4
-dup-divisor i b hi hb e =
-    let l : (i * 16 + b) % 16 ≡ b = omega arith in
-    some-quarter (sizeOf (i * 16 + b)) (dup-read (i * 16 + b) (omega arith) (rw l (not-true (eqb b 0) e)) .size)
 
 -- ---- LUTI4: its sizes, and the strided first register
 pub record LutiSize (n : ℕ) : Type 0 where

@@ -7,7 +7,7 @@ use native.Mathlib.Omega.{arith}
 use lib.Dec.{T}
 use borrow.Author.Tests.{eqb-true}
 use Rattle.setting.specs.Allowed.{allowedOf}
-use Rattle.setting.specs.Numbers.{accept, refuse}
+use Rattle.setting.specs.Numbers.{accept}
 use Rattle.setting.specs.declared.Setting.{Setting}
 use Rattle.element.proofs.Tests.{both-yes}
 use Rattle.encoding.specs.Layout.{fieldsOf, wordOf, matches}
@@ -21,7 +21,7 @@ use Rattle.encoding.specs.declared.Instruction.{Instruction}
 use Rattle.encoding.specs.declared.Instruction.the-variants.{Pext1, Pext2, Dup, Luti4c, Luti4s, Uqrshrnb}
 use Rattle.encoding.proofs.LayoutLaws.{fields-back, word-matches}
 use Rattle.encoding.proofs.Apart.{decide}
-use Rattle.encoding.proofs.Choice.{disjoint, matchesAt, none-first, first-is-read, place-is, at-most-one, refused-none, accepted-by, first-three}
+use Rattle.encoding.proofs.Choice.{disjoint, matchesAt, none-first, first-is-read, place-is, at-most-one, refused-none, accepted-by}
 use Rattle.encoding.proofs.InRange.{in-range-reads}
 use Rattle.encoding.proofs.WrittenBack.{RowWrites, pext1-writes, pext2-writes, dup-row-writes, luti4c-row-writes, luti4s-row-writes, uqrshrnb-row-writes}
 
@@ -118,8 +118,3 @@ read-in-range s i w e =
     let back = encode-decode s i w e in
     decide (inRange i) (λ g. g)
     (λ g. decide (allowedOf s) (λ a. not-zero w (simp (a, g) at back)) (λ a. not-zero w (simp a at back)))
-
--- under an allowed setting a refusal is 3
-pub refused-three : (s : Setting) (w n : ℕ) → allowedOf s ≡ true → decodeOf s w ≡ refuse n → n ≡ 3
-unfolding decodeOf
-refused-three s w n a e = first-three rows (s .features) w n (simp a at e)

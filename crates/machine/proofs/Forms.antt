@@ -2,7 +2,7 @@
 use mathlib.Core.Path.{_≡_, refl, sym, ap, _∙_}
 use mathlib.Core.Bool.{Bool}
 use mathlib.Core.List.{List, [], _∷_}
-use Prim.Native.Nat.{ℕ, zero, suc, _+_, _-_, _*_, _/_, _%_, _<_, _≤_}
+use Prim.Native.Nat.{ℕ, zero, suc, _-_, _*_, _≤_}
 use native.Mathlib.Omega.{arith}
 use lib.ListN.{length, getD}
 use Rattle.setting.specs.Allowed.{hasFeature}
@@ -21,9 +21,9 @@ use Rattle.predicate.specs.Pext.{pextLeaves}
 use Rattle.predicate.specs.Dup.{dupLeaves}
 use Rattle.lookup.specs.Calls.{luti4File}
 use Rattle.narrow.specs.Calls.{narrowFile}
-use Rattle.machine.specs.Machine.{Machine, machine, advanced}
+use Rattle.machine.specs.Machine.{Machine, machine}
 use Rattle.machine.specs.Step.{Step, need, firstFailed, needsOf, stepOf, stepAs}
-use Rattle.machine.specs.Done.{Ready, Checked, Known, PredicateWord, VectorWord, TablelessWord, HasV, HasVS, HasST, HasWV, ifDone, doneOf, executedOf, movedBy}
+use Rattle.machine.specs.Done.{Ready, Known, PredicateWord, VectorWord, TablelessWord, HasV, HasVS, HasST, HasWV, ifDone, doneOf, executedOf, movedBy}
 use Rattle.machine.specs.declared.Scalars.{Scalars}
 use Rattle.machine.proofs.Steps.{refused-for, done-for, step-executes, step-ready, step-undefined}
 use Rattle.machine.proofs.Operations.{pext1-done, pext2-done, dup-done, luti4c-done, luti4s-done, uqrshrnb-done}

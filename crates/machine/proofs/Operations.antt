@@ -1,5 +1,5 @@
 -- What each leaf leaves of its file is the machine with the instruction's new contents put: the tests of the leaf hold of fields in range, and the slots are the table's.
-use mathlib.Core.Path.{_≡_, refl, sym}
+use mathlib.Core.Path.{_≡_, refl}
 use mathlib.Core.Bool.{true, _&&_, _||_}
 use mathlib.Core.List.{List, [], _∷_}
 use Prim.Native.Nat.{ℕ, zero, suc, _+_, _-_, _*_, _/_, _%_, _<_, _≤_}

@@ -2,9 +2,8 @@
 use mathlib.Core.Path.{_≡_, ap, _∙_}
 use mathlib.Core.List.{List}
 use Prim.Native.Nat.{ℕ, _/_}
-use native.Mathlib.Omega.{arith}
 use Rattle.predicate.specs.Operands.{clearSlots}
-use Rattle.predicate.proofs.Clearing.{Sizes, sizes}
+use Rattle.predicate.proofs.Clearing.{sizes}
 use borrow.Author.Needs.{needs}
 use Rattle.predicate.proofs.clear_by.Statement.{statement}
 use Rattle.predicate.proofs.clear_by.Tie as tie

@@ -1,5 +1,4 @@
 -- `quotient` meets its contract: a quotient by 0 is 0.
-use mathlib.Core.Path.{sym}
 use native.Mathlib.Nat.{div-zero}
 use borrow.Author.Needs.{needs}
 use Rattle.decoder.proofs.fields.quotient.Statement.{statement}

@@ -1,5 +1,5 @@
 -- `look_up` meets its contract: refused as its access is, with the file as it was, or done as its leaf does.
-use mathlib.Core.Path.{sym, _∙_}
+use mathlib.Core.Path.{_∙_}
 use Rattle.machine.proofs.Forms.{kept}
 use borrow.Author.Needs.{needs}
 use Rattle.interpreter.proofs.words.look_up.Statement.{statement}
