@@ -9,8 +9,8 @@
 //! median and the minimum of the rounds' ratios, each side's least time, and
 //! the ratio of these. (A round in which the baseline alone was interrupted
 //! makes a minimum that says nothing: read the median.) The last rows time
-//! single steps: words that are refused, undefined and for a closed flag, and
-//! words that are done, of each form.
+//! single steps: words that are done, of each form, with the same bars, and
+//! words that are refused, undefined and for a closed flag.
 //!
 //! The files are random, and no word of a form's row writes what one of them
 //! reads, so that the sources stay random: DUP's chosen element is true about
@@ -18,8 +18,9 @@
 //! over; the row "DUP B, false" shows that, with no bar of its own.
 //!
 //! With `cleared` every file is zeros at the start, as for a long session. Then
-//! no element of a predicate is true, so that PEXT and DUP only clear; the bars
-//! of the forms do not stand there.
+//! no element of a predicate is true, so that PEXT and DUP only clear, which
+//! the baseline does at once too: their bar is 1.05 there, and by the single
+//! step there is none.
 
 use std::hint::black_box;
 use std::process::ExitCode;
@@ -155,11 +156,12 @@ fn cases(files: Files) -> Vec<Case> {
         answer: 0,
         open: true,
     };
-    let step = |name: &str, words, answer, open| Case {
+    let none = [f64::INFINITY; 2];
+    let step = |name: &str, words, bars, answer, open| Case {
         stepped: true,
         answer,
         open,
-        ..stretch(name, words, [f64::INFINITY; 2])
+        ..stretch(name, words, bars)
     };
     let sizes = |form| match form {
         Form::Pext1 | Form::Pext2 | Form::Dup => &[8, 16, 32, 64][..],
@@ -170,27 +172,29 @@ fn cases(files: Files) -> Vec<Case> {
     let letter = |size: u32| ["B", "H", "S", "D"][size.trailing_zeros() as usize - 3];
     let (mut cases, mut steps) = (Vec::new(), Vec::new());
     for form in Form::ALL {
-        let bars = match form {
-            _ if files == Files::Cleared => [f64::INFINITY; 2],
-            Form::Uqrshrnb => [1.05, 0.7],
-            _ => [1.05, 0.4],
+        let (bars, step_bars) = match (form, files) {
+            (Form::Uqrshrnb, _) => ([1.05, 0.7], [1.05, 0.7]),
+            (Form::Luti4c | Form::Luti4s, _) | (_, Files::Random) => ([1.05, 0.4], [1.05, 0.4]),
+            (_, Files::Cleared) => ([1.05, 1.05], none),
         };
         for &size in sizes(form) {
             let name = format!("{} {}", form.name(), letter(size));
             let words = of_form(form, size);
-            steps.push(step(&format!("step: {name}"), words.clone(), 0, true));
+            let stepped = format!("step: {name}");
+            steps.push(step(&stepped, words.clone(), step_bars, 0, true));
             cases.push(stretch(&name, words, bars));
         }
     }
     let falses = of_false(&of_form(Form::Dup, 8));
-    cases.push(stretch("DUP B, false", falses, [f64::INFINITY; 2]));
+    cases.push(stretch("DUP B, false", falses, none));
     for seed in 1..=3 {
         cases.push(stretch(&format!("mixed, {seed}"), mixed(seed), [1.0, 0.6]));
     }
     cases.extend(steps);
     let narrow = of_form(Form::Uqrshrnb, 8);
-    cases.push(step("step: undefined", vec![0x2520_4000; STRETCH], 3, true));
-    cases.push(step("step: V closed", narrow, 4, false));
+    let undefined = vec![0x2520_4000; STRETCH];
+    cases.push(step("step: undefined", undefined, none, 3, true));
+    cases.push(step("step: V closed", narrow, none, 4, false));
     cases
 }
 
