@@ -56,7 +56,7 @@ use Rattle.machine.proofs.Stepped as P
 use Rattle.machine.proofs.Stepped.Laws as P′
 use Rattle.interpreter.proofs.step as step
 use Rattle.interpreter.proofs.step.Symbol as step-def
-use Rattle.interpreter.proofs.step.Symbol.{name as #machine·step}
+use Rattle.interpreter.proofs.step.Symbol.{name as #interpreter·step}
 use Rattle.interpreter.proofs.step.Met as step-thm
 use Rattle.console.proofs.step_lent.Key.{name as #console·step-lent}
 use Rattle.console.proofs.step_lent as step-lent
@@ -145,7 +145,7 @@ module _ {M : Type 1} (𝓤 : URA M) (H : Heap 𝓤) (A : Atoms 𝓤) (W : Given
       nothing ! $ nothing ! $ fjoin ! $ nothing ! $ fjoin ! $ move ! (1 ∷ 0 ∷ []) $ fjoin ! $ move ! (1 ∷ 0 ∷ []) $ fjoin ! $ move ! (1 ∷ 0 ∷ []) $ fjoin ! $ move ! (1 ∷ 0 ∷ []) $ fjoin ! $
       owned ! N.the-row (Is N.the-row) (EL.makes N.the-type N′.the-plain 𝓤 H A) (r .answer) _ is $ move ! (1 ∷ 0 ∷ []) $ done !
 
-  module _ (C : Calls 𝓤 H) (Λ : Loops 𝓤 H) (fm : FmC 𝓤 H (W .laws) C) (known : Triple 𝓤 (C #machine·step) (StepC 𝓤 H A at-mem run)) where
+  module _ (C : Calls 𝓤 H) (Λ : Loops 𝓤 H) (fm : FmC 𝓤 H (W .laws) C) (known : Triple 𝓤 (C #interpreter·step) (StepC 𝓤 H A at-mem run)) where
     walk : Room u8 (length (z .now)) → Room u8 (length (p .now)) → Room u8 (length (t .now)) → Is S.the-row s (under s ∷ []) → w < 2 ^ 32
         → ent 𝓤 (onEntry 𝓤 H A step-lent.signature (κ₀, (κ₁, (κ₂, (κ₃, tt)))) (q₀, (q₁, (q₂, (q₃, tt)))) a vals) (WpFn 𝓤 H C Λ code.function (at z ∷ at p ∷ at t ∷ vptr b o ∷ under s ∷ vint w32 w ∷ []) Post)
     walk rz rp rt sg w-fits =
@@ -196,7 +196,7 @@ module _ {M : Type 1} (𝓤 : URA M) (H : Heap 𝓤) (A : Atoms 𝓤) (W : Given
         keep ! (0 ∷ 1 ∷ 2 ∷ 4 ∷ 5 ∷ 7 ∷ 8 ∷ []) $ by ! (exits r (zs .0) (zs .1 .0) (zs .1 .1 .0) e lz lp lt (fields .0)))))))))))))))))))))))))))
 
 module _ {M : Type 1} (𝓤 : URA M) (H : Heap 𝓤) (A : Atoms 𝓤) (W : Given 𝓤 H A) (mem : Memory → SProp 𝓤) (run : Routine → Fun 𝓤) where
-  step-lent-walks : (C : Calls 𝓤 H) (Λ : Loops 𝓤 H) → FmC 𝓤 H (W .laws) C → Triple 𝓤 (C #machine·step) (StepC 𝓤 H A mem run) → Walks 𝓤 H A step-lent.ended stayed (WpFn 𝓤 H C Λ code.function) (step-lent.clauses 𝓤 H A mem run)
+  step-lent-walks : (C : Calls 𝓤 H) (Λ : Loops 𝓤 H) → FmC 𝓤 H (W .laws) C → Triple 𝓤 (C #interpreter·step) (StepC 𝓤 H A mem run) → Walks 𝓤 H A step-lent.ended stayed (WpFn 𝓤 H C Λ code.function) (step-lent.clauses 𝓤 H A mem run)
   step-lent-walks C Λ fm known = walked 𝓤 H A step-lent.ended stayed (step-lent.clauses 𝓤 H A mem run) (WpFn 𝓤 H C Λ code.function)
       (λ κs. (slice-vals, (slice-vals, (slice-vals, (ptr-vals, (LL.vals S.the-type S′.the-laws, (uint-vals w32, tt)))))))
       (λ κs. (mut-slice-tells (named 0) (κs .0) u8, (mut-slice-tells (named 1) (κs .1 .0) u8, (mut-slice-tells (named 2) (κs .1 .1 .0) u8, (mut-tells (named 3) (κs .1 .1 .1 .0) R, (LL.tells S.the-type S′.the-laws, (uint-tells w32, tt)))))))
@@ -204,7 +204,7 @@ module _ {M : Type 1} (𝓤 : URA M) (H : Heap 𝓤) (A : Atoms 𝓤) (W : Given
       (walk 𝓤 H A W mem run (κs .0) (κs .1 .0) (κs .1 .1 .0) (κs .1 .1 .1 .0) (qs .0) (qs .1 .0) (qs .1 .1 .0) (qs .1 .1 .1 .0) (a .0) (a .1 .0) (a .1 .1 .0) (a .1 .1 .1 .0 .ptr .0) (a .1 .1 .1 .0 .ptr .1) (a .1 .1 .1 .0 .name) (a .1 .1 .1 .0 .now)
       (a .1 .1 .1 .1 .0) (a .1 .1 .1 .1 .1 .0) C Λ fm known (are .0 .0 .1) (are .1 .0 .0 .1) (are .1 .1 .0 .0 .1) (are .1 .1 .1 .1 .0) (are .1 .1 .1 .1 .1 .0 .1)))
 
-step-lent-meets : {M : Type 1} (𝓤 : URA M) (H : Heap 𝓤) (A : Atoms 𝓤) → Given 𝓤 H A → (mem : Memory → SProp 𝓤) (run : Routine → Fun 𝓤) (𝓣 : Tables 𝓤 H) → Triple 𝓤 (𝓣 .C #machine·step) (StepC 𝓤 H A mem run)
+step-lent-meets : {M : Type 1} (𝓤 : URA M) (H : Heap 𝓤) (A : Atoms 𝓤) → Given 𝓤 H A → (mem : Memory → SProp 𝓤) (run : Routine → Fun 𝓤) (𝓣 : Tables 𝓤 H) → Triple 𝓤 (𝓣 .C #interpreter·step) (StepC 𝓤 H A mem run)
     → Meets 𝓤 H A step-lent.signature (WpFn 𝓤 H (𝓣 .C) (𝓣 .Λ) code.function) (step-lent.spec 𝓤 H A mem run)
 step-lent-meets 𝓤 H A W mem run 𝓣 known =
     walk-meets 𝓤 H A step-lent.ended stayed W (
@@ -228,4 +228,4 @@ step-lent-spec 𝓤 H 𝓜 𝓖 𝓡 =
     entered 𝓤 H (tripleOf 𝓤 H (𝓖 .A) step-lent.signature (step-lent.spec 𝓤 H (𝓖 .A) (𝓜 .mem) (𝓡 .run)))
     (tables 𝓤 H 𝓜 𝓡 code.env .C) (tables 𝓤 H 𝓜 𝓡 code.env .Λ) #console·step-lent code.function (code.unfolded 𝓤 H 𝓜 𝓡)
     (step-lent-meets 𝓤 H (𝓖 .A) (givenOf 𝓤 H 𝓜 𝓖) (𝓜 .mem) (𝓡 .run) (tablesOf 𝓤 H 𝓜 (tables 𝓤 H 𝓜 𝓡 code.env))
-    (cited 𝓤 H (StepC 𝓤 H (𝓖 .A) (𝓜 .mem) (𝓡 .run)) 𝓜 𝓡 code.env #machine·step step-def.routine code.calls-machine·step (step-thm.met 𝓤 H 𝓜 𝓖 𝓡)))
+    (cited 𝓤 H (StepC 𝓤 H (𝓖 .A) (𝓜 .mem) (𝓡 .run)) 𝓜 𝓡 code.env #interpreter·step step-def.routine code.calls-interpreter·step (step-thm.met 𝓤 H 𝓜 𝓖 𝓡)))
