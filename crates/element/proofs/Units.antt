@@ -4,12 +4,14 @@ use mathlib.Core.Bool.{true, _||_}
 use mathlib.Core.Logic.{⊎-elim, _⊎_, inl, inr}
 use Prim.Native.Nat.{ℕ, zero, suc, _+_, _*_, _/_, _%_, _^_, _<_}
 use native.Mathlib.Nat.{div-div-eq-div-mul, mul-div-right}
+use native.Mathlib.Decide.{decLt}
 use native.Mathlib.Omega.{arith}
-use lib.Dec.{eqb, lit<}
-use borrow.Author.Tests.{eqb-true}
+use lib.Dec.{eqb, ltb, lit<}
+use borrow.Author.Tests.{eqb-true, lt-ltb, le-ltb}
 use Rattle.element.specs.Size.{isSize}
-use Rattle.element.specs.Units.{Size, Log, logOf}
+use Rattle.element.specs.Units.{Size, Log, logOf, sizeAt}
 use Rattle.element.proofs.Tests.{one-yes}
+use Rattle.element.proofs.Below.{agree, agree-eq, below}
 
 -- a unit: 2 ^ z, z below 4
 abbrev pub Unit : ℕ → Type 0
@@ -44,6 +46,22 @@ log-is size =
     ⊎-elim (λ (e : size ≡ 8). rw e (record { small = lit< tt; is = refl }))
     (⊎-elim (λ (e : size ≡ 16). rw e (record { small = lit< tt; is = refl }))
     (⊎-elim (λ (e : size ≡ 32). rw e (record { small = lit< tt; is = refl })) (λ (e : size ≡ 64). rw e (record { small = lit< tt; is = refl }))))
+
+-- a size by its log: which logs have one, and back
+pub at-log : (z : ℕ) → z < 4 → Log (sizeAt z) z
+at-log z h = rw (lt-ltb z 4 h) (record { small = h; is = refl })
+
+pub is-size-at : (z : ℕ) → isSize (sizeAt z) ≡ ltb z 4
+is-size-at z = go (decLt z 4)
+  where
+    go : Dec (z < 4) → isSize (sizeAt z) ≡ ltb z 4
+    go (yes h) = agree-eq (isSize (sizeAt z)) (ltb z 4) (below (λ (n : ℕ). agree (isSize (sizeAt n)) (ltb n 4)) 4 tt z h)
+    go (no g) = let e = le-ltb z 4 (omega arith) in rw e
+
+pub log-back : (size : ℕ) → Size size → sizeAt (logOf size) ≡ size
+log-back size =
+    ⊎-elim (λ (e : size ≡ 8). rw e)
+    (⊎-elim (λ (e : size ≡ 16). rw e) (⊎-elim (λ (e : size ≡ 32). rw e) (λ (e : size ≡ 64). rw e)))
 
 -- what holds of each of the four sizes holds of every number that passes the test
 pub size-cases : (P : ℕ → Type 0) → P 8 → P 16 → P 32 → P 64 → (size : ℕ) → isSize size ≡ true → P size

@@ -34,15 +34,12 @@ pub fn log_of(size: u32) -> u32
     if size == 32 { 2 } else { 3 }
 }
 
-// The bits of a byte at which elements of 2^z bits stand.
+// The bits of a byte at which elements of 2^z bits stand: a byte of a number, which takes no branch.
 pub fn pattern_of(z: u32) -> u8
     ensures { λ r. ⌜ r ≡ patternOf z ⌝ }
 {
-    if z == 0 {
-        return 255;
+    if z < 4 {
+        return ((0x011155ffu32 >> (8 * z)) % 256) as u8;
     }
-    if z == 1 {
-        return 85;
-    }
-    if z == 2 { 17 } else { 1 }
+    1
 }
