@@ -12,21 +12,20 @@ use Rattle.part.specs.Parts.{Width}
 use Rattle.narrow.specs.Narrow.{narrowed, uqrshrnbOf, uqrshrnbFile}
 use Rattle.narrow.specs.Needed.{ChunksReady, NarrowReady}
 
-module _ {file vl s shift zn zd : ℕ} (op : NarrowReady file vl s shift zn zd) (per w : ℕ) (whole : per * w ≡ 16) (some : 1 ≤ w) (width : Width w) (size : s ≡ 4 * w) where
-  bytes-are : vl / 128 % 32 * 16 ≡ vl / 8
+module _ {file vl s shift zn zd : ℕ} (op : NarrowReady file vl s shift zn zd) (n per w : ℕ) (count : n ≡ vl / 128 % 32) (whole : per * w ≡ 16) (some : 1 ≤ w) (width : Width w) (size : s ≡ 4 * w) where
+  bytes-are : n * 16 ≡ vl / 8
   bytes-are = let l = op .lengths in omega arith
 
-  elements-are : vl / 128 % 32 * per ≡ vl / (2 * (4 * w))
+  elements-are : n * per ≡ vl / (2 * (4 * w))
   elements-are =
       let l = op .lengths in
-      let n = vl / 128 % 32 in
       let e : 2 * (4 * w) ≡ w * 8 = omega arith in
       let p : n * per * w ≡ n * 16 = mul-assoc n per w ∙ ap (λ (m : ℕ). n * m) whole in
       let q : n * per * (w * 8) ≡ n * 16 * 8 = sym (mul-assoc (n * per) w 8) ∙ ap (λ (m : ℕ). m * 8) p in
       let v : vl ≡ n * per * (w * 8) = omega arith in
       sym (ap (λ (m : ℕ). vl / m) e ∙ div-eq-of-eq-mul-left (omega arith) v)
 
-  pub chunks-ready : ChunksReady file (vl / 128 % 32) per w shift zn zd
+  pub chunks-ready : ChunksReady file n per w shift zn zd
   chunks-ready =
       let m = op .lengths .most in
       record {
@@ -42,7 +41,7 @@ module _ {file vl s shift zn zd : ℕ} (op : NarrowReady file vl s shift zn zd) 
 
   pub chunks-are : isResult (4 * w) ≡ true
       → (z o : List ℕ)
-      → o ≡ setSlot 256 (vl / 128 % 32 * 16) zd (fill (λ e. narrowed (4 * w) shift (elem w e (slot 256 (vl / 128 % 32 * 16) zn z))) w (vl / 128 % 32 * per)) z
+      → o ≡ setSlot 256 (n * 16) zd (fill (λ e. narrowed (4 * w) shift (elem w e (slot 256 (n * 16) zn z))) w (n * per)) z
       → (true ≡ isResult s) × (o ≡ pick (isResult s) (uqrshrnbFile s shift vl zn zd z) z)
   unfolding uqrshrnbFile uqrshrnbOf
   chunks-are t z o h = let q : 4 * w / 4 ≡ w = omega arith in rw (size, t) (refl, rw (q, ← bytes-are, ← elements-are) h)

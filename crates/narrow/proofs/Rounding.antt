@@ -1,10 +1,10 @@
 -- The code's rounding and cut are the definition's, once over size and shift: what lies above `top`, and nothing else, rounds past the greatest result.
 use mathlib.Core.Path.{_≡_, sym, ap, _∙_}
 use Prim.Native.Nat.{ℕ, _+_, _-_, _*_, _/_, _%_, _^_, _≤_, _<_}
-use native.Mathlib.Nat.{min-eq-left, min-eq-right, min-le-right, one-mul, mul-comm, mul-div-mul-right, mod-eq-of-lt}
+use native.Mathlib.Nat.{min-eq-left, min-eq-right, min-le-right, one-mul, mod-eq-of-lt}
 use native.Mathlib.Omega.{arith}
 use lib.Dec.{lit<}
-use lib.Pow.{pow-pos, pow-add, pow-mono, shl-lt, shl-exact, shl-shr, shr-mono, ones-lt, ones-split, lt-of-le-ones, high, low}
+use lib.Pow.{pow-pos, pow-add, pow-mono, shl-exact, shr-mono, ones-lt, ones-split, lt-of-le-ones, high, low}
 use Rattle.narrow.specs.Narrow.{rounded, narrowed}
 
 -- as the code computes them, in elements of 2s bits
@@ -75,21 +75,3 @@ module _ (s k : ℕ) (some : 1 ≤ k) (most : k ≤ s) where
         ∙ ap (λ (n : ℕ). n % 2 ^ s) (high (2 ^ (s - k + s) - 1) k (ones-lt k) ∙ ones-split (s - k) s)
         ∙ low (2 ^ (s - k) - 1) s (ones-lt s)
         ∙ over-max h
-
-  -- a shift by k as a product and a shift by s
-  parts : 2 ^ s ≡ 2 ^ (s - k) * 2 ^ k
-  parts = let e : s ≡ s - k + k = omega arith in ap (λ (n : ℕ). 2 ^ n) e ∙ pow-add 2 (s - k) k
-
-  quotient : 2 ^ s / 2 ^ k ≡ 2 ^ (s - k)
-  quotient = ap (λ (n : ℕ). n / 2 ^ k) parts ∙ shl-shr (2 ^ (s - k)) k
-
-  pub shifted : (v : ℕ) → v * (2 ^ s / 2 ^ k) / 2 ^ s ≡ v / 2 ^ k
-  shifted v =
-      let e : 2 ^ s ≡ 2 ^ k * 2 ^ (s - k) = parts ∙ mul-comm (2 ^ (s - k)) (2 ^ k) in
-      ap (λ (n : ℕ). v * n / 2 ^ s) quotient ∙ ap (λ (n : ℕ). v * 2 ^ (s - k) / n) e ∙ mul-div-mul-right v (2 ^ k) (pow-pos (s - k))
-
-  pub product-fits : (y : ℕ) → y ≤ top s k → (y + half s k) * (2 ^ s / 2 ^ k) < 2 ^ (s + s)
-  product-fits y h =
-      let l : y + half s k ≤ 2 ^ (s + k) - 1 = omega (arith, sum, ones-split s k) in
-      let e : s + k + (s - k) ≡ s + s = omega arith in
-      rw quotient (rw e at (shl-lt (s + k) (s - k) (lt-of-le-ones (s + k) l)))

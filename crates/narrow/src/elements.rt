@@ -45,7 +45,8 @@ fn narrow_chunks(z: &mut [u8], n: usize, per: usize, w: usize, shift: u32, zn: u
     }
 }
 
-// The width is a literal: the compiler makes a loop for each. No length has 32 chunks, and the remainder says so to the compiler.
+// The width is a literal, so that the compiler makes a loop for each, and so is the number of chunks at VL 2048, for which it
+// makes straight code. No length has 32 chunks, and the remainder says so to the compiler.
 // False, and nothing is written, for another size.
 pub(crate) fn narrow_file(
     z: &mut [u8],
@@ -61,14 +62,26 @@ pub(crate) fn narrow_file(
 {
     let n = vl / 128 % 32;
     if size == 8 {
+        if n == 16 {
+            narrow_chunks(z, 16, 8, 2, shift, zn, zd);
+            return true;
+        }
         narrow_chunks(z, n, 8, 2, shift, zn, zd);
         return true;
     }
     if size == 16 {
+        if n == 16 {
+            narrow_chunks(z, 16, 4, 4, shift, zn, zd);
+            return true;
+        }
         narrow_chunks(z, n, 4, 4, shift, zn, zd);
         return true;
     }
     if size == 32 {
+        if n == 16 {
+            narrow_chunks(z, 16, 2, 8, shift, zn, zd);
+            return true;
+        }
         narrow_chunks(z, n, 2, 8, shift, zn, zd);
         return true;
     }

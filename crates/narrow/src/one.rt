@@ -28,7 +28,7 @@ fn narrow_one32(x: u32, shift: u32) -> u32
     (y >> shift) % 65536
 }
 
-// To 32 bits. A product and a fixed shift take less time than a shift by a number.
+// To 32 bits.
 fn narrow_one64(x: u64, shift: u64) -> u64
     requires { ⌜ (1 ≤ shift) × (shift ≤ 32) ⌝ }
     ensures { λ r. ⌜ r ≡ narrowed 32 shift x ⌝ }
@@ -36,7 +36,7 @@ fn narrow_one64(x: u64, shift: u64) -> u64
     let half = 1u64 << (shift - 1);
     let top = (4294967295u64 << shift) + (half - 1);
     let y = if x <= top { x } else { top };
-    (y + half) * (4294967296 >> shift) / 4294967296
+    (y + half) >> shift
 }
 
 // An element of w bytes.

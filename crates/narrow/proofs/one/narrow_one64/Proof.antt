@@ -1,9 +1,9 @@
--- `narrow_one64` meets its contract: the product and its shift are the shift by a number.
+-- `narrow_one64` meets its contract: the rounded element, or the greatest that is not cut.
 use mathlib.Core.Path.{ap, _∙_}
 use mathlib.Core.Logic.{⊎-elim}
 use Prim.Native.Nat.{ℕ, _+_, _/_, _^_}
 use native.Mathlib.Omega.{arith}
-use Rattle.narrow.proofs.Rounding.{half, bounds, under, over, shifted, product-fits}
+use Rattle.narrow.proofs.Rounding.{half, bounds, under, over}
 use borrow.Author.Needs.{needs}
 use Rattle.narrow.proofs.one.narrow_one64.Statement.{statement}
 use Rattle.narrow.proofs.one.narrow_one64.Tie as tie
@@ -32,21 +32,16 @@ add-result c =
 shr-result : tie.Need-shr-result
 shr-result c = search needs
 
-mul-result : tie.Need-mul-result
-mul-result c =
-    let a = c .before .before in
-    record { fits = product-fits 32 (a .args .shift) (a .pre .0) (a .pre .1) (c .before .if1 .y) (⊎-elim (λ w. omega arith) (λ w. omega arith) (c .before .if1 .came)) }
-
 returns : tie.Need-returns
 returns c =
     let a = c .before .before in
     let k = a .args .shift in
     let x = a .args .x in
-    shifted 32 k (a .pre .0) (a .pre .1) _ ∙ ⊎-elim
+    ⊎-elim
     (λ w. ap (λ (n : ℕ). (n + half 32 k) / 2 ^ k) (w .1) ∙ under 32 k (a .pre .0) (a .pre .1) x (w .0 .taken))
     (λ w. ap (λ (n : ℕ). (n + half 32 k) / 2 ^ k) (w .1) ∙ over 32 k (a .pre .0) (a .pre .1) x (w .0 .left))
     (c .before .if1 .came)
 
 pub narrow-one64-spec : {M : Type 1} → statement M
 narrow-one64-spec =
-    tie.close (tie.spec sub-half shl-half shl-top sub-top add-top add-result shr-result mul-result returns)
+    tie.close (tie.spec sub-half shl-half shl-top sub-top add-top add-result shr-result returns)
