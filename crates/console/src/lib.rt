@@ -43,7 +43,7 @@ pub fn predicate<'a>(file: &'a [u8], vl: u32, register: u32) -> &'a [u8]
     &file[at..end]
 }
 
-// One word. The record is lent, and advanced where it stands.
+// One word. The record is lent, and advanced where it stands: of the scalars a step moves PC alone.
 pub fn step_lent(
     z: &mut [u8],
     p: &mut [u8],
@@ -55,7 +55,7 @@ pub fn step_lent(
     ensures { λ r. ⌜ stepAs (numberOf r) (now (z .exit)) (now (p .exit)) (now (zt .exit)) (now (scalars .exit)) ≡ stepOf setting word (machine (now (z .entry)) (now (p .entry)) (now (zt .entry)) (now (scalars .entry))) ⌝ }
 {
     let r = interpreter::step(z, p, zt, *scalars, setting, word);
-    *scalars = r.scalars;
+    scalars.pc = r.scalars.pc;
     r.answer
 }
 

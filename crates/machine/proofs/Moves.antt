@@ -1,4 +1,4 @@
--- A run moves PC once for each word done, and no other scalar: by the touch table no word writes an index register, and words follow by induction.
+-- A step and a run move PC once for each word done, and no other scalar: by the touch table no word writes an index register, and words follow by induction.
 use mathlib.Core.Path.{_≡_, refl, sym, ap, _∙_}
 use mathlib.Core.List.{List, [], _∷_}
 use Prim.Native.Nat.{ℕ, zero, suc}
@@ -12,11 +12,12 @@ use Rattle.encoding.specs.declared.Instruction.the-variants.{Pext1, Pext2, Dup,
 use Rattle.machine.specs.Machine.{Machine, scalarsOf, put, next, advanced}
 use Rattle.machine.specs.Touched.{writesOf}
 use Rattle.machine.specs.Gives.{givesOf}
-use Rattle.machine.specs.Step.{refusalOf, execOf}
+use Rattle.machine.specs.Step.{Step, refusalOf, execOf, after, stepOf, stepAs, steppedAs}
 use Rattle.machine.specs.Run.{refusedBefore, begun, runOf, runAs, ranAs}
 use Rattle.machine.specs.Done.{movedOn}
 use Rattle.machine.specs.Claims.{RunMovesPc}
 use Rattle.machine.specs.declared.Scalars.{Scalars}
+use Rattle.machine.specs.declared.Stepped.{Stepped}
 use Rattle.machine.specs.declared.Ran.{Ran}
 
 -- new contents of what an instruction writes leave the scalars
@@ -69,17 +70,32 @@ unfolding movedOn
 moved-on-keeps zero c = refl
 moved-on-keeps (suc n) c = ap advanced (moved-on-keeps n c)
 
+-- what keeps them, said of what equals it
+by-pc : (c : Scalars) {x y : Scalars} → x ≡ y → y ≡ withPc (y .pc) c → x ≡ withPc (x .pc) c
+by-pc c f k = f ∙ k ∙ ap (λ (v : Scalars). withPc (v .pc) c) (sym f)
+
+step-keeps : (s : Setting) (w : ℕ) (m : Machine) → stepOf s w m .left .scalars ≡ withPc (stepOf s w m .left .scalars .pc) (m .scalars)
+unfolding stepOf
+step-keeps s w m = go (refusalOf s w m)
+  where
+    go : (k : ℕ) → after k s w m .left .scalars ≡ withPc (after k s w m .left .scalars .pc) (m .scalars)
+    go zero = by-pc (m .scalars) (word-moves s w m) refl
+    go (suc k) = refl
+
+-- so whoever has the other scalars needs only PC of what `step` answers
+pub step-pc-alone : (s : Setting) (w : ℕ) (z p zt : List ℕ) (m : Machine) (r : Stepped) → steppedAs r z p zt ≡ stepOf s w m
+    → stepAs (numberOf (r .answer)) z p zt (withPc (r .scalars .pc) (m .scalars)) ≡ stepOf s w m
+step-pc-alone s w z p zt m r e = ap (λ (c : Scalars). stepAs (numberOf (r .answer)) z p zt c) (sym (by-pc (m .scalars) (ap (λ (x : Step). x .left .scalars) e) (step-keeps s w m))) ∙ e
+
 run-keeps : (s : Setting) (words : List ℕ) (m : Machine) → runOf s words m .left .scalars ≡ withPc (runOf s words m .left .scalars .pc) (m .scalars)
 run-keeps s words m =
-    let e = run-moves-pc s words m in
-    e ∙ moved-on-keeps (runOf s words m .done) (m .scalars) ∙ ap (λ (x : Scalars). withPc (x .pc) (m .scalars)) (sym e)
+    by-pc (m .scalars) (run-moves-pc s words m) (moved-on-keeps (runOf s words m .done) (m .scalars))
 
--- so whoever has the other scalars needs only PC of what `run` answers
+-- and of what `run` answers
 pub pc-alone : (s : Setting) (words z p zt : List ℕ) (m : Machine) (r : Ran) (n : ℕ) → n ≡ numberOf (r .answer) → ranAs r z p zt ≡ runOf s words m
     → runAs n (r .done) z p zt (withPc (r .scalars .pc) (m .scalars)) ≡ runOf s words m
 pc-alone s words z p zt m r n q e =
-    let f : r .scalars ≡ runOf s words m .left .scalars = ap (λ (x : Ended Machine). x .left .scalars) e in
-    let k : r .scalars ≡ withPc (r .scalars .pc) (m .scalars) = f ∙ run-keeps s words m ∙ ap (λ (x : Scalars). withPc (x .pc) (m .scalars)) (sym f) in
+    let k = by-pc (m .scalars) (ap (λ (x : Ended Machine). x .left .scalars) e) (run-keeps s words m) in
     ap (λ (x : ℕ). runAs x (r .done) z p zt (withPc (r .scalars .pc) (m .scalars))) q
     ∙ ap (λ (c : Scalars). runAs (numberOf (r .answer)) (r .done) z p zt c) (sym k)
     ∙ e

@@ -1,4 +1,4 @@
--- `console::step_lent` meets its contract: a walk of its MIR, by hand. The record's borrow is opened, the record is copied out and passed to `step` with the three files; the record that `step` returned is stored whole, and the borrow is closed at it.
+-- `console::step_lent` meets its contract: a walk of its MIR, by hand. The record's borrow is opened, the record is copied out and passed to `step` with the three files; PC of the record that `step` returned is stored, and the borrow is closed at the record with it, which is the one that `step` returned: a step moves PC alone.
 -- All that the proof knows of `step` is that it meets its contract. The files are given up to `step` at their own lifetimes; of the setting and the word nothing is had at exit.
 use mathlib.Core.Path.{_≡_, refl, ap}
 use Prim.Native.Nat.{ℕ, _<_, _^_}
@@ -17,8 +17,8 @@ use ghost.Atoms.{Atoms, sem}
 use contract.Monad.{Fun, fact}
 use contract.Running.{givenOf, tables, tablesOf}
 use types.Kit.{Given, Item, ‵, raw, _⊛_, ⋆, some, later, _$_, _∵_, !, qed, by, move, keep, drop, use1, use2, split, join, pick, rewrite, fsplit, fsplit3, fjoin, fjoin3, feqL, feqI, suffices, frame, await, done}
-use types.Run.{look, look-raw, init, store-raw, forget, stop, hop, fld, from, load, addr, of-opd, and-then, no-more, assigns, land, returns, enter, alloc1, alloc0, params1, pass1, pass0, free1, free0}
-use types.Part.{agg, whole, sub, look-in}
+use types.Run.{look, look-raw, init, forget, stop, hop, fld, from, load, addr, of-opd, and-then, no-more, assigns, land, returns, enter, alloc1, alloc0, params1, pass1, pass0, free1, free0}
+use types.Part.{agg, whole, sub, look-in, store-in}
 use types.SemTy.{Body}
 use sound.WpLaws.{FmC, fmOf, WpFn-mono}
 use denote.RattleType.{RattleType, owns}
@@ -44,6 +44,7 @@ use denote.Exit.{yes}
 use Rattle.machine.specs.Machine.{machine}
 use Rattle.machine.specs.Step.{stepOf, steppedAs}
 use Rattle.machine.specs.declared.Scalars.{Scalars}
+use Rattle.machine.proofs.Moves.{withPc, step-pc-alone}
 use Rattle.machine.specs.declared.Stepped.{Stepped}
 use Rattle.setting.specs.declared.Setting.{Setting}
 use Rattle.setting.proofs.Answer as N
@@ -126,17 +127,27 @@ module _ {M : Type 1} (𝓤 : URA M) (H : Heap 𝓤) (A : Atoms 𝓤) (W : Given
   goes : ent 𝓤 (⋆ 𝓤 H A (toks ∷ ‵ (owns (MutSlice (named 0) κ₀ u8 ∷ MutSlice (named 1) κ₁ u8 ∷ MutSlice (named 2) κ₂ u8 ∷ R ∷ S.the-row ∷ u32 ∷ []) a′ vals′) ∷ [])) (StepC 𝓤 H A at-mem run .pre to-step)
   goes = qed W (toks ∷ ‵ (owns (MutSlice (named 0) κ₀ u8 ∷ MutSlice (named 1) κ₁ u8 ∷ MutSlice (named 2) κ₂ u8 ∷ R ∷ S.the-row ∷ u32 ∷ []) a′ vals′) ∷ []) ∵ join ! $ frame ! $ done !
 
+  -- the record at exit: the lent one with PC of the result
+  abbrev left : Stepped → Scalars
+  left r = withPc (r .scalars .pc) h
+
+  -- what closing the borrow asks
+  made : (r : Stepped) → Is R h (mach h ∷ []) → Is R (r .scalars) (mach (r .scalars) ∷ []) → Is R (left r) (mach (left r) ∷ [])
+  made r was new =
+      let o = LL.owed T.the-type T′.the-laws h _ was in
+      LL.owes T.the-type T′.the-laws (left r) (o .0, (o .1 .0, (o .1 .1 .0, (o .1 .1 .1 .0, (LL.owed T.the-type T′.the-laws (r .scalars) _ new .1 .1 .1 .1 .0, o .1 .1 .1 .1 .1)))))
+
   -- what `step` says
   abbrev Said : Stepped → List ℕ → List ℕ → List ℕ → Type 0
   Said r zs ps ts = steppedAs r zs ps ts ≡ stepOf s w (machine (z .now) (p .now) (t .now) h)
 
   exits : (r : Stepped) (zs ps ts : List ℕ) → Said r zs ps ts → length zs ≡ length (z .now) → length ps ≡ length (p .now) → length ts ≡ length (t .now) → Is N.the-row (r .answer) (EL.val N.the-type N′.the-laws (r .answer) ∷ [])
-      → ent 𝓤 (⋆ 𝓤 H A (‵ (fobs γ (R .coded .code (r .scalars))) ∷ ‵ (fbor κ₃ (Body (mem R) b o γ)) ∷ ‵ (flft κ₃ q₃) ∷ toks ∷ ‵ (finally u8 (t .name) ts) ∷ ‵ (finally u8 (p .name) ps) ∷ ‵ (finally u8 (z .name) zs) ∷ [])) (Post (EL.val N.the-type N′.the-laws (r .answer)))
+      → ent 𝓤 (⋆ 𝓤 H A (‵ (fobs γ (R .coded .code (left r))) ∷ ‵ (fbor κ₃ (Body (mem R) b o γ)) ∷ ‵ (flft κ₃ q₃) ∷ toks ∷ ‵ (finally u8 (t .name) ts) ∷ ‵ (finally u8 (p .name) ps) ∷ ‵ (finally u8 (z .name) zs) ∷ [])) (Post (EL.val N.the-type N′.the-laws (r .answer)))
   exits r zs ps ts e lz lp lt is =
-      qed W (‵ (fobs γ (R .coded .code (r .scalars))) ∷ ‵ (fbor κ₃ (Body (mem R) b o γ)) ∷ ‵ (flft κ₃ q₃) ∷ toks ∷ ‵ (finally u8 (t .name) ts) ∷ ‵ (finally u8 (p .name) ps) ∷ ‵ (finally u8 (z .name) zs) ∷ []) ∵
+      qed W (‵ (fobs γ (R .coded .code (left r))) ∷ ‵ (fbor κ₃ (Body (mem R) b o γ)) ∷ ‵ (flft κ₃ q₃) ∷ toks ∷ ‵ (finally u8 (t .name) ts) ∷ ‵ (finally u8 (p .name) ps) ∷ ‵ (finally u8 (z .name) zs) ∷ []) ∵
       suffices ! _ (ends-at 𝓤 H A step-lent.ended stayed (step-lent.clauses 𝓤 H A at-mem run) W (((κ₀, (κ₁, (κ₂, (κ₃, tt)))), (q₀, (q₁, (q₂, (q₃, tt)))), tt, a, vals), tt) (EL.val N.the-type N′.the-laws (r .answer)) (r .answer)
-      (zs, (ps, (ts, (r .scalars, (tt, (tt, tt)))))) (lz, (lp, (lt, (tt, (tt, (tt, tt))))))) $
-      says ! e $
+      (zs, (ps, (ts, (left r, (tt, (tt, tt)))))) (lz, (lp, (lt, (tt, (tt, (tt, tt))))))) $
+      says ! (step-pc-alone s w zs ps ts (machine (z .now) (p .now) (t .now) h) r e) $
       -- the four tokens
       move ! (3 ∷ []) $ split ! $ move ! (1 ∷ []) $ split ! $ move ! (1 ∷ []) $ split ! $
       move ! (6 ∷ 1 ∷ []) $ join ! $ move ! (1 ∷ 0 ∷ []) $ join ! $ move ! (1 ∷ 0 ∷ []) $ join ! $ move ! (1 ∷ 0 ∷ []) $ join ! $ frame ! $
@@ -186,9 +197,9 @@ module _ {M : Type 1} (𝓤 : URA M) (H : Heap 𝓤) (A : Atoms 𝓤) (W : Given
         land ! (from ! (stop !)) (init ! 24 refl (LL.lawful P.the-type P′.the-laws 𝓤 H A W .typed r _ is .0)) $
         rewrite ! 24 (λ (x : Val). ‵ (fat fullShare P′.mir l₇ 0 x)) (ap only (LL.tells P.the-type P′.the-laws r _ is)) refl $
         -- [the result; the tokens; t's last list; …; p's last list; z's last list; the record's cell; the open borrow; obs; auth; _14; …]
-        assigns ! (of-opd ! (load ! (from ! (fld ! refl (stop !))) (look-in ! 24 (sub ! 1 refl (whole !))))) (from ! (hop ! (look ! 30 refl) (stop !))) (store-raw ! 6 refl (LL.lawful T.the-type T′.the-laws 𝓤 H A W .typed (r .scalars) _ (fields .1 .0) .0)) $
+        assigns ! (of-opd ! (load ! (from ! (fld ! refl (fld ! refl (stop !)))) (look-in ! 24 (sub ! 4 refl (sub ! 1 refl (whole !)))))) (from ! (hop ! (look ! 30 refl) (fld ! refl (stop !)))) (store-in ! 6 (sub ! 4 refl (whole !)) (tt, record { fits = LL.owed T.the-type T′.the-laws (r .scalars) _ (fields .1 .0) .1 .1 .1 .1 .0 .1 })) $
         assigns ! (of-opd ! (load ! (from ! (fld ! refl (stop !))) (look-in ! 24 (sub ! 0 refl (whole !))))) (from ! (stop !)) (init ! 38 refl (EL.lawful N.the-type N′.the-laws 𝓤 H A W tt .typed (r .answer) _ (fields .0) .0)) $
-        owned ! R (Is R) (LL.makes T.the-type T′.the-plain 𝓤 H A) (r .scalars) _ (fields .1 .0) $ move ! (7 ∷ 0 ∷ 8 ∷ 9 ∷ 10 ∷ []) $ closes ! tt R (r .scalars) (mach (r .scalars) ∷ []) b o $
+        owned ! R (Is R) (LL.makes T.the-type T′.the-plain 𝓤 H A) (left r) _ (made r g (fields .1 .0)) $ move ! (7 ∷ 0 ∷ 8 ∷ 9 ∷ 10 ∷ []) $ closes ! tt R (left r) (mach (left r) ∷ []) b o $
         -- [obs; the borrow; κ₃; the result; the tokens; t's last list; …; p's last list; z's last list; _14; …]
         returns ! (look ! 37 refl) $ forget ! 9 refl $ forget ! 11 refl $ forget ! 13 refl $ forget ! 15 refl $ forget ! 17 refl $ forget ! 19 refl $ forget ! 21 refl $ forget ! 23 refl $ forget ! 25 refl $ forget ! 27 refl $ forget ! 29 refl $ forget ! 31 refl $ forget ! 33 refl $ forget ! 35 refl $ forget ! 37 refl $
         move ! (37 ∷ 38 ∷ []) $ free1 ! $ move ! (35 ∷ 36 ∷ []) $ free1 ! $ move ! (33 ∷ 34 ∷ []) $ free1 ! $ move ! (31 ∷ 32 ∷ []) $ free1 ! $ move ! (29 ∷ 30 ∷ []) $ free1 ! $ move ! (27 ∷ 28 ∷ []) $ free1 ! $ move ! (25 ∷ 26 ∷ []) $ free1 ! $ move ! (23 ∷ 24 ∷ []) $ free1 ! $
