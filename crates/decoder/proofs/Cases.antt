@@ -18,7 +18,7 @@ use Rattle.encoding.specs.Layout.{Piece, width, fieldsOf, matches}
 use Rattle.encoding.specs.Rows.{Row, rows, rowMatches, pext1, pext2, dup, luti4c, luti4s, uqrshrnb}
 use Rattle.encoding.specs.Forms.{placeOf, layoutAt, placeFirst, placeIn}
 use Rattle.encoding.specs.Decode.{firstOf, readAt, decodeOf}
-use Rattle.decoder.specs.Operands.{four, operandsIn}
+use Rattle.decoder.specs.Operands.{none, operandsIn}
 use Rattle.encoding.specs.declared.Instruction.{Instruction}
 use Rattle.encoding.proofs.LayoutLaws.{sound, maskOf, fixedOf, matches-masked, masked-matches}
 use Rattle.encoding.proofs.Apart.{decide, apart, not-both}
@@ -119,7 +119,7 @@ not-both-zero n zero b = rw (zero-mul (suc n), zero-add b)
 not-both-zero n (suc a) b = rw (ne-eqb (suc a) 0 (λ e. omega arith), ne-eqb (suc a * suc n + b) 0 (λ e. omega (arith, suc-mul a (suc n))))
 
 -- no other row than the five has four fields
-pub no-operands : (k w : ℕ) → (k ≡ 0 → ⊥) → (k ≡ 1 → ⊥) → (k ≡ 3 → ⊥) → (k ≡ 4 → ⊥) → (k ≡ 5 → ⊥) → operandsIn (readAt rows k w) ≡ four 0 0 0 0
+pub no-operands : (k w : ℕ) → (k ≡ 0 → ⊥) → (k ≡ 1 → ⊥) → (k ≡ 3 → ⊥) → (k ≡ 4 → ⊥) → (k ≡ 5 → ⊥) → operandsIn (readAt rows k w) ≡ none
 no-operands zero w a b c d e = absurd (a refl)
 no-operands (suc zero) w a b c d e = absurd (b refl)
 no-operands (suc (suc zero)) w a b c d e = refl

@@ -2,6 +2,7 @@
 ghost use mathlib.Core.Path.{_≡_};
 ghost use Prim.Native.Nat.{_+_, _*_, _/_, _%_, _^_, _<_};
 ghost use Rattle.setting.specs.Numbers.{accept};
+ghost use Rattle.element.specs.Units.{sizeAt};
 ghost use Rattle.encoding.specs.Instructions.{narrowSize};
 ghost use Rattle.encoding.specs.Rows.{rows};
 ghost use Rattle.encoding.specs.Decode.{readAt};
@@ -9,12 +10,12 @@ ghost use Rattle.decoder.specs.Operands.{operandsIn, dupAs};
 use crate::DupOperands;
 use crate::Operands;
 
-// The element size of a size field of two bits.
-fn element_size(raw: u32) -> u32
-    requires { ⌜ raw < 4 ⌝ }
-    ensures { λ r. ⌜ r ≡ 8 * 2 ^ raw ⌝ }
+// The element size of a size field of two bits, which is its log.
+pub(crate) fn element_size(log: u32) -> u32
+    requires { ⌜ log < 4 ⌝ }
+    ensures { λ r. ⌜ r ≡ 8 * 2 ^ log ⌝ }
 {
-    8 << raw
+    8 << log
 }
 
 // DUP's tszh:tszl.
@@ -43,11 +44,14 @@ fn narrow_size(tsz: u32) -> u32
 pub(crate) fn pext1(word: u32) -> Operands
     ensures { λ r. ⌜ r ≡ operandsIn (readAt rows 0 word) ⌝ }
 {
-    let size = element_size(word / 0x400000 % 4);
+    let log = word / 0x400000 % 4;
+    let size = element_size(log);
+    let source = 8 + word / 32 % 8;
     Operands {
         size,
+        log,
         immediate: word / 0x100 % 4,
-        source: 8 + word / 32 % 8,
+        source,
         destination: word % 16,
     }
 }
@@ -55,34 +59,38 @@ pub(crate) fn pext1(word: u32) -> Operands
 pub(crate) fn pext2(word: u32) -> Operands
     ensures { λ r. ⌜ r ≡ operandsIn (readAt rows 1 word) ⌝ }
 {
-    let size = element_size(word / 0x400000 % 4);
+    let log = word / 0x400000 % 4;
+    let size = element_size(log);
+    let source = 8 + word / 32 % 8;
     Operands {
         size,
+        log,
         immediate: word / 0x100 % 2,
-        source: 8 + word / 32 % 8,
+        source,
         destination: word % 16,
     }
 }
 
-// 0 where the divisor is.
-fn quotient(a: u32, b: u32) -> u32
-    ensures { λ r. ⌜ r ≡ a / b ⌝ }
+// The bits above the lowest that is set, whose place is the log; 0 where none of the four low bits is.
+fn above_lowest(bits: u32, log: u32) -> u32
+    ensures { λ r. ⌜ r ≡ bits / (sizeAt log / 4) ⌝ }
 {
-    if b == 0 {
-        return 0;
+    if log < 4 {
+        return bits >> (log + 1);
     }
-    a / b
+    0
 }
 
 pub(crate) fn dup(word: u32) -> DupOperands
     ensures { λ r. ⌜ accept (dupAs r) ≡ readAt rows 2 word ⌝ }
 {
-    let bits = word / 0x800000 % 2 * 16 + dup_tsz(word);
-    let size = element::size_of(bits);
-    let offset = quotient(bits, size / 4);
+    let tsz = dup_tsz(word);
+    let log = u32::trailing_zeros(tsz);
+    let bits = word / 0x800000 % 2 * 16 + tsz;
+    let offset = above_lowest(bits, log);
     let index = 12 + word / 0x10000 % 4;
     DupOperands {
-        size,
+        log,
         offset,
         index,
         pg: word / 0x400 % 16,
@@ -94,22 +102,27 @@ pub(crate) fn dup(word: u32) -> DupOperands
 pub(crate) fn luti4c(word: u32) -> Operands
     ensures { λ r. ⌜ r ≡ operandsIn (readAt rows 3 word) ⌝ }
 {
-    let size = element_size(word / 0x1000 % 4);
+    let log = word / 0x1000 % 4;
+    let size = element_size(log);
+    let destination = 4 * (word / 4 % 8);
     Operands {
         size,
+        log,
         immediate: word / 0x10000 % 2,
         source: word / 32 % 32,
-        destination: 4 * (word / 4 % 8),
+        destination,
     }
 }
 
 pub(crate) fn luti4s(word: u32) -> Operands
     ensures { λ r. ⌜ r ≡ operandsIn (readAt rows 4 word) ⌝ }
 {
-    let size = element_size(word / 0x1000 % 4);
+    let log = word / 0x1000 % 4;
+    let size = element_size(log);
     let destination = 16 * (word / 16 % 2) + word % 4;
     Operands {
         size,
+        log,
         immediate: word / 0x10000 % 2,
         source: word / 32 % 32,
         destination,
@@ -121,9 +134,11 @@ pub(crate) fn uqrshrnb(word: u32) -> Operands
 {
     let tsz = narrow_tsz(word);
     let size = narrow_size(tsz);
+    let log = element::log_of(size);
     let immediate = 2 * size - (tsz * 8 + word / 0x10000 % 8);
     Operands {
         size,
+        log,
         immediate,
         source: word / 32 % 32,
         destination: word % 32,

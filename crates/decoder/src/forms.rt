@@ -1,11 +1,13 @@
 // Fields as the instruction of a form.
 ghost use mathlib.Core.Path.{_≡_};
 ghost use Rattle.setting.specs.Numbers.{accept};
+ghost use Rattle.element.specs.Units.{sizeAt};
 ghost use Rattle.encoding.specs.Decode.{decodedAs};
 ghost use Rattle.encoding.specs.declared.Instruction.the-variants.{Pext1, Pext2, Luti4c, Luti4s, Uqrshrnb};
 ghost use Rattle.decoder.specs.Operands.{dupAs};
 use crate::DupOperands;
 use crate::Operands;
+use crate::fields;
 use encoding::Decoded;
 use encoding::Instruction;
 
@@ -64,11 +66,22 @@ pub(crate) fn uqrshrnb(o: Operands) -> Decoded
     })
 }
 
+// 0 where the log is no size's.
+fn size_at(log: u32) -> u32
+    ensures { λ r. ⌜ r ≡ sizeAt log ⌝ }
+{
+    if log < 4 {
+        return fields::element_size(log);
+    }
+    0
+}
+
 pub(crate) fn dup(o: DupOperands) -> Decoded
     ensures { λ r. ⌜ decodedAs r ≡ accept (dupAs o) ⌝ }
 {
+    let size = size_at(o.log);
     Decoded::Fields(Instruction::Dup {
-        size: o.size,
+        size,
         offset: o.offset,
         index: o.index,
         pg: o.pg,

@@ -13,16 +13,18 @@ use encoding::Decoded;
 use setting::Answer;
 use setting::Setting;
 
-// The fields of every form but DUP; the immediate is a portion, i1 or a shift.
+// The fields of every form but DUP, the size by its log too; the immediate is a portion, i1 or a shift.
 pub struct Operands {
     pub size: u32,
+    pub log: u32,
     pub immediate: u32,
     pub source: u32,
     pub destination: u32,
 }
 
+// DUP's, whose size is 8 · 2^log; a log of 4 or more is none.
 pub struct DupOperands {
-    pub size: u32,
+    pub log: u32,
     pub offset: u32,
     pub index: u32,
     pub pg: u32,
@@ -58,6 +60,7 @@ pub fn operands_at(row: usize, word: u32) -> Operands
         5 => fields::uqrshrnb(word),
         _ => Operands {
             size: 0,
+            log: 0,
             immediate: 0,
             source: 0,
             destination: 0,

@@ -1,4 +1,7 @@
--- `luti4c` meets its contract: each field is a digit of the word.
+-- `luti4c` meets its contract: each field is a digit of the word, and the size's log is its field.
+use Prim.Native.Nat.{_/_, _%_}
+use native.Mathlib.Omega.{arith}
+use Rattle.encoding.proofs.FieldBits.{log-size}
 use borrow.Author.Needs.{needs}
 use Rattle.decoder.proofs.fields.luti4c.Statement.{statement}
 use Rattle.decoder.proofs.fields.luti4c.Tie as tie
@@ -6,11 +9,11 @@ use Rattle.decoder.proofs.fields.luti4c.Tie as tie
 element-size-requires : tie.Need-element-size-requires
 element-size-requires c κs = search needs
 
-mul-t9 : tie.Need-mul-t9
-mul-t9 c = search needs
+mul-destination : tie.Need-mul-destination
+mul-destination c = search needs
 
 returns : tie.Need-returns
-returns c = rw (c .element-size .ensures)
+returns c = let w = c .before .args .word in rw (c .element-size .ensures, log-size (w / 0x1000 % 4) (omega arith) .0)
 
 pub luti4c-spec : {M : Type 1} → statement M
-luti4c-spec = tie.close (tie.spec element-size-requires mul-t9 returns)
+luti4c-spec = tie.close (tie.spec element-size-requires mul-destination returns)

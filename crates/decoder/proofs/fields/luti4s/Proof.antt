@@ -1,5 +1,8 @@
--- `luti4s` meets its contract: each field is a digit of the word.
+-- `luti4s` meets its contract: each field is a digit of the word, and the size's log is its field.
+use Prim.Native.Nat.{_/_, _%_}
 use native.Mathlib.Nat.{div-one}
+use native.Mathlib.Omega.{arith}
+use Rattle.encoding.proofs.FieldBits.{log-size}
 use borrow.Author.Needs.{needs}
 use Rattle.decoder.proofs.fields.luti4s.Statement.{statement}
 use Rattle.decoder.proofs.fields.luti4s.Tie as tie
@@ -14,7 +17,7 @@ add-destination : tie.Need-add-destination
 add-destination c = search needs
 
 returns : tie.Need-returns
-returns c = rw (c .element-size .ensures, div-one (c .before .args .word))
+returns c = let w = c .before .args .word in rw (c .element-size .ensures, log-size (w / 0x1000 % 4) (omega arith) .0, div-one w)
 
 pub luti4s-spec : {M : Type 1} → statement M
 luti4s-spec = tie.close (tie.spec element-size-requires mul-destination add-destination returns)

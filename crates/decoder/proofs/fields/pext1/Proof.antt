@@ -1,5 +1,8 @@
--- `pext1` meets its contract: each field is a digit of the word.
+-- `pext1` meets its contract: each field is a digit of the word, and the size's log is its field.
+use Prim.Native.Nat.{_/_, _%_}
 use native.Mathlib.Nat.{div-one}
+use native.Mathlib.Omega.{arith}
+use Rattle.encoding.proofs.FieldBits.{log-size}
 use borrow.Author.Needs.{needs}
 use Rattle.decoder.proofs.fields.pext1.Statement.{statement}
 use Rattle.decoder.proofs.fields.pext1.Tie as tie
@@ -7,11 +10,11 @@ use Rattle.decoder.proofs.fields.pext1.Tie as tie
 element-size-requires : tie.Need-element-size-requires
 element-size-requires c κs = search needs
 
-add-t7 : tie.Need-add-t7
-add-t7 c = search needs
+add-source : tie.Need-add-source
+add-source c = search needs
 
 returns : tie.Need-returns
-returns c = rw (c .element-size .ensures, div-one (c .before .args .word))
+returns c = let w = c .before .args .word in rw (c .element-size .ensures, log-size (w / 0x400000 % 4) (omega arith) .0, div-one w)
 
 pub pext1-spec : {M : Type 1} → statement M
-pext1-spec = tie.close (tie.spec element-size-requires add-t7 returns)
+pext1-spec = tie.close (tie.spec element-size-requires add-source returns)

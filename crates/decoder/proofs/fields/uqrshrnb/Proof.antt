@@ -13,8 +13,11 @@ narrow-tsz-requires c κs = search needs
 narrow-size-requires : tie.Need-narrow-size-requires
 narrow-size-requires c κs = search needs
 
+log-of-requires : tie.Need-log-of-requires
+log-of-requires c κs = search needs
+
 mul-immediate : tie.Need-mul-immediate
-mul-immediate c = omega (arith, c .narrow-size .ensures, narrow-size-le (c .before .narrow-tsz .result))
+mul-immediate c = omega (arith, c .before .narrow-size .ensures, narrow-size-le (c .before .before .narrow-tsz .result))
 
 mul-immediate-2 : tie.Need-mul-immediate-2
 mul-immediate-2 c = search needs
@@ -24,14 +27,15 @@ add-immediate c = search needs
 
 sub-immediate : tie.Need-sub-immediate
 sub-immediate c =
-    let w = c .before .before .args .word in
-    let e = c .before .narrow-tsz .ensures in
-    let t : c .before .narrow-tsz .result < 8 = omega arith in
+    let r = c .before .before .narrow-tsz in
+    let w = c .before .before .before .args .word in
+    let e = r .ensures in
+    let t : r .result < 8 = omega arith in
     let m : w / 0x10000 % 8 < 8 = omega arith in
-    omega (arith, c .narrow-size .ensures, shift-bits-le (c .before .narrow-tsz .result) (w / 0x10000 % 8) t m)
+    omega (arith, c .before .narrow-size .ensures, shift-bits-le (r .result) (w / 0x10000 % 8) t m)
 
 returns : tie.Need-returns
-returns c = rw (c .narrow-size .ensures, c .before .narrow-tsz .ensures, div-one (c .before .before .args .word))
+returns c = rw (c .log-of .ensures, c .before .narrow-size .ensures, c .before .before .narrow-tsz .ensures, div-one (c .before .before .before .args .word))
 
 pub uqrshrnb-spec : {M : Type 1} → statement M
 uqrshrnb-spec =
@@ -39,6 +43,7 @@ uqrshrnb-spec =
     (tie.spec
     narrow-tsz-requires
     narrow-size-requires
+    log-of-requires
     mul-immediate
     mul-immediate-2
     add-immediate

@@ -1,0 +1,32 @@
+-- DUP's size by its log, as its bits say it: a test over the values of the low four, and one over the logs.
+use mathlib.Core.Path.{_≡_}
+use mathlib.Core.Bool.{Bool}
+use Prim.Native.Nat.{ℕ, _+_, _*_, _/_, _%_, _^_, _<_}
+use native.Mathlib.Omega.{arith}
+use lib.Count.{trailingZeros}
+use lib.Dec.{eqb, eqb→eq}
+use Rattle.element.specs.Size.{pick, sizeOf}
+use Rattle.element.specs.Units.{sizeAt}
+use Rattle.element.proofs.Below.{below}
+
+-- the size of four bits
+sized : ℕ → ℕ
+unfolding trailingZeros
+sized t = pick (eqb t 0) 0 (8 * 2 ^ trailingZeros 32 t)
+
+by-log : ℕ → Bool
+unfolding sized trailingZeros
+by-log t = eqb (sized t) (sizeAt (trailingZeros 32 t))
+
+-- the log is the number of trailing zeros, 32 where there is no size
+pub size-by-log : (field : ℕ) → sizeOf field ≡ sizeAt (trailingZeros 32 (field % 16))
+unfolding sizeOf sized by-log trailingZeros
+size-by-log field = let t = field % 16 in eqb→eq (sized t) (sizeAt (trailingZeros 32 t)) (below by-log 16 tt t (omega arith))
+
+quartered : ℕ → Bool
+quartered z = eqb (sizeAt z / 4) (2 ^ (z + 1))
+
+-- dividing by a quarter of the size shifts the lowest bit that is set out
+pub quarter : (z : ℕ) → z < 4 → sizeAt z / 4 ≡ 2 ^ (z + 1)
+unfolding quartered
+quarter z h = eqb→eq (sizeAt z / 4) (2 ^ (z + 1)) (below quartered 4 tt z h)
