@@ -1,0 +1,3 @@
+pub mod Dup
+pub mod Operands
+pub mod Points
