@@ -5,7 +5,7 @@ use Prim.Native.Nat.{ℕ, _+_, _*_, _/_, _%_, _^_, _<_}
 use native.Mathlib.Omega.{arith}
 use lib.Count.{trailingZeros}
 use lib.Dec.{eqb, eqb→eq}
-use Rattle.element.specs.Size.{pick, sizeOf}
+use Rattle.element.specs.Size.{pick, zeros, sizeOf}
 use Rattle.element.specs.Units.{sizeAt}
 use Rattle.element.proofs.Below.{below}
 
@@ -19,7 +19,7 @@ unfolding sized trailingZeros
 by-log t = eqb (sized t) (sizeAt (trailingZeros 32 t))
 
 -- the log is the number of trailing zeros, 32 where there is no size
-pub size-by-log : (field : ℕ) → sizeOf field ≡ sizeAt (trailingZeros 32 (field % 16))
+pub size-by-log : (field : ℕ) → sizeOf field ≡ sizeAt (zeros field)
 unfolding sizeOf sized by-log trailingZeros
 size-by-log field = let t = field % 16 in eqb→eq (sized t) (sizeAt (trailingZeros 32 t)) (below by-log 16 tt t (omega arith))
 

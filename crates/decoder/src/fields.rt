@@ -84,9 +84,8 @@ fn above_lowest(bits: u32, log: u32) -> u32
 pub(crate) fn dup(word: u32) -> DupOperands
     ensures { λ r. ⌜ accept (dupAs r) ≡ readAt rows 2 word ⌝ }
 {
-    let tsz = dup_tsz(word);
-    let log = u32::trailing_zeros(tsz);
-    let bits = word / 0x800000 % 2 * 16 + tsz;
+    let bits = word / 0x800000 % 2 * 16 + dup_tsz(word);
+    let log = element::log_said(bits);
     let offset = above_lowest(bits, log);
     let index = 12 + word / 0x10000 % 4;
     DupOperands {

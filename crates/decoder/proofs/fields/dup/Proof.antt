@@ -1,21 +1,22 @@
 -- `dup` meets its contract: each field is a digit of the word, and the size's log is the number of the size field's trailing zeros.
-use mathlib.Core.Path.{_≡_}
 use Prim.Native.Nat.{_+_, _*_, _/_, _%_}
 use native.Mathlib.Nat.{div-one}
-use native.Mathlib.Omega.{arith}
 use Rattle.decoder.proofs.Logs.{size-by-log}
 use borrow.Author.Needs.{needs}
 use Rattle.decoder.proofs.fields.dup.Statement.{statement}
 use Rattle.decoder.proofs.fields.dup.Tie as tie
 
-dup-tsz-requires : tie.Need-dup-tsz-requires
-dup-tsz-requires c κs = search needs
-
 mul-bits : tie.Need-mul-bits
 mul-bits c = search needs
 
+dup-tsz-requires : tie.Need-dup-tsz-requires
+dup-tsz-requires c κs = search needs
+
 add-bits : tie.Need-add-bits
 add-bits c = search needs
+
+log-said-requires : tie.Need-log-said-requires
+log-said-requires c κs = search needs
 
 above-lowest-requires : tie.Need-above-lowest-requires
 above-lowest-requires c κs = search needs
@@ -25,10 +26,10 @@ add-index c = search needs
 
 returns : tie.Need-returns
 returns c =
-    let w = c .before .before .args .word in
+    let w = c .before .before .before .args .word in
     let t = w / 0x400000 % 2 * 8 + w / 0x40000 % 8 in
-    let low : (w / 0x800000 % 2 * 16 + t) % 16 ≡ t = omega arith in
-    rw (c .above-lowest .ensures, c .before .dup-tsz .ensures, size-by-log (w / 0x800000 % 2 * 16 + t), low, div-one w)
+    rw (c .above-lowest .ensures, c .before .log-said .ensures, c .before .before .dup-tsz .ensures, size-by-log (w / 0x800000 % 2 * 16 + t), div-one w)
 
 pub dup-spec : {M : Type 1} → statement M
-dup-spec = tie.close (tie.spec dup-tsz-requires mul-bits add-bits above-lowest-requires add-index returns)
+dup-spec =
+    tie.close (tie.spec mul-bits dup-tsz-requires add-bits log-said-requires above-lowest-requires add-index returns)
