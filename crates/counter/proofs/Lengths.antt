@@ -1,21 +1,21 @@
 -- The allowed lengths are powers of two, so a count's bits are those below VL; and the size that a counter says.
 use mathlib.Core.Path.{_≡_, refl, sym, ap, ap₂, _∙_}
 use mathlib.Core.Bool.{Bool, true, _||_}
-use mathlib.Core.Logic.{_⊎_, inl, inr}
 use Prim.Native.Nat.{ℕ, zero, suc, _+_, _-_, _*_, _/_, _%_, _^_, _≤_, _<_}
+use native.Mathlib.Decide.{decLt}
 use native.Mathlib.Omega.{arith}
-use lib.Bits.{bitAnd, and-block, and-self}
+use lib.Bits.{bitAnd, and-block, and-mask, and-self}
 use lib.Count.{trailingZeros}
 use lib.Dec.{T, eqb, eqb→eq, lit<, lit≤}
 use lib.Pow.{field, mod-mod-pow}
 use borrow.Author.Tests.{ne-eqb}
 use Rattle.setting.specs.Allowed.{lengthAllowed}
 use Rattle.setting.proofs.Lengths.{length-cases}
-use Rattle.element.specs.Size.{sizeOf}
+use Rattle.element.specs.Size.{sizeOf, zeros}
 use Rattle.element.specs.Units.{Log}
 use Rattle.element.proofs.Below.{below}
 use Rattle.element.proofs.Sizes.{zeros-lt}
-use Rattle.counter.specs.Counter.{zeros, topBit, countOf, inverts}
+use Rattle.counter.specs.Counter.{topBit, countOf, inverts}
 use Rattle.counter.specs.Strips.{Length}
 
 pub length-is : (vl : ℕ) → lengthAllowed vl ≡ true → Length vl
@@ -31,6 +31,10 @@ length-is =
 pub top-bit : (vl : ℕ) → lengthAllowed vl ≡ true → 2 ^ topBit vl ≡ 4 * (vl / 8)
 unfolding topBit trailingZeros
 top-bit = length-cases (λ vl. 2 ^ topBit vl ≡ 4 * (vl / 8)) refl refl refl refl refl
+
+-- what is below a power of two stands under a mask
+pub below-vl : (c vl : ℕ) → Length vl → bitAnd c (vl - 1) ≡ c % vl
+below-vl c vl l = ap (λ (n : ℕ). bitAnd c (n - 1)) (l .power) ∙ and-mask c (topBit vl + 1) ∙ ap (λ (n : ℕ). c % n) (sym (l .power))
 
 -- the lowest 1 of a number's low four bits: tests over them
 drops : ℕ → Bool
@@ -85,7 +89,7 @@ module _ (c : ℕ) (ne : c % 16 ≡ 0 → ⊥) where
   size-said = record { small = few-zeros; is = rw (ne-eqb (c % 16) 0 ne) }
 
   -- bits m down to z + 1 are those below VL from z + 1 on: 2 ^ (m + 1) is VL
-  pub count-is : (vl : ℕ) → Length vl → countOf vl c ≡ c % vl / 2 ^ (zeros c + 1)
+  count-is : (vl : ℕ) → Length vl → countOf vl c ≡ c % vl / 2 ^ (zeros c + 1)
   unfolding countOf
   count-is vl l =
       let f = few-zeros in
@@ -99,15 +103,11 @@ module _ (c : ℕ) (ne : c % 16 ≡ 0 → ⊥) where
       ap (λ (n : ℕ). c % n % 16) (l .power ∙ ap (λ (n : ℕ). 2 ^ n) e) ∙ mod-mod-pow c (topBit vl - 3) 4
 
   pub some-low : (vl : ℕ) → Length vl → 1 ≤ c % vl
-  some-low vl l = go (decEq0 (c % vl))
+  some-low vl l = go (decLt 0 (c % vl))
     where
-      decEq0 : (n : ℕ) → (n ≡ 0) ⊎ (1 ≤ n)
-      decEq0 zero = inl refl
-      decEq0 (suc n) = inr (omega arith)
-
-      go : (c % vl ≡ 0) ⊎ (1 ≤ c % vl) → 1 ≤ c % vl
-      go (inl e) = absurd (ne (sym (low-four vl l) ∙ ap (λ (n : ℕ). n % 16) e))
-      go (inr h) = h
+      go : Dec (0 < c % vl) → 1 ≤ c % vl
+      go (yes h) = h
+      go (no h) = absurd (ne (omega (arith, low-four vl l)))
 
   -- the edge's place: the count's bits stand one above the lowest 1
   pub place-is : (vl : ℕ) → Length vl → bitAnd (c % vl) (c % vl - 1) / 2 ≡ countOf vl c * 2 ^ zeros c

@@ -1,7 +1,6 @@
-pub mod Octets
-pub mod Paints
 pub mod Lengths
 pub mod StripLaws
 pub mod Words
+pub mod Rows
 pub mod Parts
 pub mod BoardPoints

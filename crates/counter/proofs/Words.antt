@@ -1,69 +1,44 @@
--- Sixty-four bits at once: an edge among them, by tests computed over its place, and the places of a size, by the bits of both.
-use mathlib.Core.Path.{_≡_, ap, _∙_}
-use mathlib.Core.Bool.{Bool, true, false, not, _&&_, and-comm}
-use Prim.Native.Nat.{ℕ, zero, suc, _+_, _-_, _*_, _/_, _%_, _^_, _≤_, _<_}
-use native.Mathlib.Nat.{mod-lt}
+-- Sixty-four bits at once: those below a place, by tests computed over it, and those that are not below it.
+use mathlib.Core.Path.{_≡_, refl, sym}
+use mathlib.Core.Bool.{Bool, true, false, not}
+use Prim.Native.Nat.{ℕ, zero, suc, _+_, _-_, _*_, _%_, _^_, _≤_, _<_}
+use native.Mathlib.Nat.{pow-succ'}
 use native.Mathlib.Omega.{arith}
-use lib.Bits.{bitAnd}
-use lib.Dec.{eqb, leb, ltb, eqb→eq, leb→le, lit<}
-use Rattle.element.specs.Size.{pick}
-use Rattle.element.specs.Units.{logOf}
-use Rattle.element.specs.Contents.{gather}
+use lib.Dec.{eqb, leb, ltb, eqb→eq, leb→le}
+use borrow.Author.Tests.{lt-ltb}
+use Rattle.element.specs.Contents.{digit, gather}
 use Rattle.element.proofs.Below.{below}
-use Rattle.element.proofs.Digits.{and-gather}
 use Rattle.element.proofs.Filling.{gather-same}
-use Rattle.counter.specs.Counter.{zeros, countOf, flipped}
-use Rattle.counter.specs.Strips.{edgeBit, Length}
-use Rattle.counter.proofs.Lengths.{few-zeros, count-is}
-
--- the low t bits, as the code has them
-abbrev pub onesOf : ℕ → ℕ
-onesOf t = (1 * 2 ^ t) % 2 ^ 64 - 1
-
-sixty-four : Bool → ℕ → ℕ
-sixty-four inv t = pick inv (2 ^ 64 - 1 - onesOf t) (onesOf t)
-
-edged : Bool → ℕ → Bool
-unfolding gather sixty-four
-edged inv t = eqb (sixty-four inv t) (gather (λ j. flipped inv (ltb j t)) 0 64)
 
 some : ℕ → Bool
-some t = leb 1 ((1 * 2 ^ t) % 2 ^ 64)
+some d = leb 1 ((1 * 2 ^ d) % 2 ^ 64)
 
-pub some-bit : (t : ℕ) → t < 64 → 1 ≤ (1 * 2 ^ t) % 2 ^ 64
+pub some-bit : (d : ℕ) → d < 64 → 1 ≤ (1 * 2 ^ d) % 2 ^ 64
 unfolding some
-some-bit t h = leb→le 1 ((1 * 2 ^ t) % 2 ^ 64) (below some 64 tt t h)
+some-bit d h = leb→le 1 ((1 * 2 ^ d) % 2 ^ 64) (below some 64 tt d h)
 
-edge-bits : (inv : Bool) (t : ℕ) → t < 64 → sixty-four inv t ≡ gather (λ j. flipped inv (ltb j t)) 0 64
-unfolding edged sixty-four gather
-edge-bits true t h = eqb→eq (sixty-four true t) (gather (λ j. not (ltb j t)) 0 64) (below (edged true) 64 tt t h)
-edge-bits false t h = eqb→eq (sixty-four false t) (gather (λ j. ltb j t) 0 64) (below (edged false) 64 tt t h)
+lower : ℕ → Bool
+unfolding gather
+lower d = eqb ((1 * 2 ^ d) % 2 ^ 64 - 1) (gather (λ b. ltb b d) 0 64)
 
-pub long-edge-is : (inv : Bool) (z t : ℕ) → t < 64 → bitAnd (pick inv (2 ^ 64 - 1 - onesOf t) (onesOf t)) (gather (λ b. eqb (b % 2 ^ z) 0) 0 64) ≡ gather (edgeBit z inv t) 0 64
-unfolding edgeBit sixty-four
-long-edge-is inv z t h =
-    ap (λ (x : ℕ). bitAnd x (gather (λ b. eqb (b % 2 ^ z) 0) 0 64)) (edge-bits inv t h)
-    ∙ and-gather (λ j. flipped inv (ltb j t)) (λ b. eqb (b % 2 ^ z) 0) 64 0
-    ∙ gather-same (λ b. flipped inv (ltb b t) && eqb (b % 2 ^ z) 0) (edgeBit z inv t) 64 0 0
-    (λ j l. and-comm (flipped inv (ltb (0 + j) t)) (eqb ((0 + j) % 2 ^ z) 0))
+-- the low d bits, as the code has them
+pub below-place : (d : ℕ) → d < 64 → (1 * 2 ^ d) % 2 ^ 64 - 1 ≡ gather (λ b. ltb b d) 0 64
+unfolding lower
+below-place d h = eqb→eq ((1 * 2 ^ d) % 2 ^ 64 - 1) (gather (λ b. ltb b d) 0 64) (below lower 64 tt d h)
 
--- the log of any number is that of a size
-pub log-small : (size : ℕ) → logOf size < 4
-log-small size = go (eqb size 8) (eqb size 16) (eqb size 32)
-  where
-    go : (a b d : Bool) → pick a 0 (pick b 1 (pick d 2 3)) < 4
-    go true b d = lit< tt
-    go false true d = lit< tt
-    go false false true = lit< tt
-    go false false false = lit< tt
+pub below-far : (d : ℕ) → 64 ≤ d → 2 ^ 64 - 1 ≡ gather (λ b. ltb b d) 0 64
+unfolding gather
+below-far d h = gather-same (λ (b : ℕ). true) (λ b. ltb b d) 64 0 0 (λ j l. sym (lt-ltb (0 + j) d (omega arith)))
 
--- at VL 128 the edge's place is below 64
-half : (z x : ℕ) → z < 4 → x < 128 → x / 2 ^ (z + 1) * 2 ^ z < 64
-half zero x h l = omega arith
-half (suc zero) x h l = omega arith
-half (suc (suc zero)) x h l = omega arith
-half (suc (suc (suc zero))) x h l = omega arith
-half (suc (suc (suc (suc z)))) x h l = absurd (omega arith)
+digit-not : (b : Bool) → digit (not b) + digit b ≡ 1
+digit-not true = refl
+digit-not false = refl
 
-pub place-small : (c : ℕ) → (c % 16 ≡ 0 → ⊥) → Length 128 → countOf 128 c * 2 ^ zeros c < 64
-place-small c ne l = rw (count-is c ne 128 l) (half (zeros c) (c % 128) (few-zeros c ne) (mod-lt c (lit< tt)))
+-- a number of n digits and that of the others make all ones
+others : (g : ℕ → Bool) (n i : ℕ) → gather (λ b. not (g b)) i n + gather g i n + 1 ≡ 2 ^ n
+unfolding gather
+others g zero i = refl
+others g (suc n) i = rw pow-succ' (omega (arith, digit-not (g i), others g n (i + 1)))
+
+pub flipped-bits : (g : ℕ → Bool) → 2 ^ 64 - 1 - gather g 0 64 ≡ gather (λ b. not (g b)) 0 64
+flipped-bits g = omega (arith, others g 64 0)

@@ -6,12 +6,8 @@ use lib.Dec.{eqb, ltb}
 use lib.Count.{trailingZeros}
 use lib.ListN.{length, replicate}
 use Rattle.setting.specs.Allowed.{lengthAllowed}
-use Rattle.element.specs.Size.{pick, sizeOf}
+use Rattle.element.specs.Size.{pick, zeros, sizeOf}
 use Rattle.element.specs.Contents.{row}
-
--- z: the trailing zeros of the low four bits
-abbrev pub zeros : ℕ → ℕ
-zeros c = trailingZeros 32 (c % 16)
 
 -- m: 2^m is 4·PL, PL being VL/8
 unfoldable pub topBit : ℕ → ℕ

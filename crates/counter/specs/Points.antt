@@ -1,4 +1,4 @@
--- Document 01, "Points on the board": starred cases 7 and 8, over the whole expansion of 4·PL bits. The crate predicate has 6 and 9.
+-- Document 01, "Points on the board": starred cases 7 and 8, over the whole expansion of 4·PL bits. The crate pext has 6 and 9.
 use mathlib.Core.Path.{_≡_}
 use mathlib.Core.Bool.{true}
 use mathlib.Core.List.{List, [], _∷_, _++_}

@@ -1,14 +1,14 @@
 // A predicate-as-counter and its mask. Only this crate turns one into the other: whole, or by a portion for PEXT.
 ghost use mathlib.Core.Path.{_≡_};
-ghost use Prim.Native.Nat.{_+_, _-_, _*_, _/_, _%_, _^_, _≤_, _<_, min, max};
-ghost use lib.Dec.{eqb};
+ghost use Prim.Native.Nat.{_+_, _-_, _*_, _%_, _^_, _<_, max};
+ghost use lib.Dec.{eqb, ltb};
 ghost use lib.ListN.{length, getD};
-ghost use Rattle.element.specs.Size.{pick};
-ghost use Rattle.element.specs.Units.{logOf};
-ghost use Rattle.element.specs.Contents.{elem, fill, gather, row};
-ghost use Rattle.counter.specs.Counter.{zeros, countOf, maskOf};
+ghost use Rattle.element.specs.Size.{pick, zeros};
+ghost use Rattle.element.specs.Units.{sizeAt};
+ghost use Rattle.element.specs.Contents.{elem, gather, row};
+ghost use Rattle.counter.specs.Counter.{countOf, maskOf};
 ghost use Rattle.counter.specs.Portion.{portionOf, extractable};
-ghost use Rattle.counter.specs.Strips.{stripBit, edgeBit, stepped, Strip, Says};
+ghost use Rattle.counter.specs.Strips.{stripBit, Strip, Filled, Says};
 ghost use Rattle.counter.specs.Points.{Claims};
 
 // Sixteen bits that are no mask.
@@ -36,12 +36,6 @@ pub fn counter_of(p: &[u8]) -> Counter
     pair(byte(p, 0), byte(p, 1))
 }
 
-fn least(a: usize, b: usize) -> usize
-    ensures { λ r. ⌜ r ≡ min a b ⌝ }
-{
-    if a < b { a } else { b }
-}
-
 fn larger(a: u32, b: u32) -> u32
     ensures { λ r. ⌜ r ≡ max a b ⌝ }
 {
@@ -55,91 +49,13 @@ fn past(t: u32, from: u32) -> u32
     if from <= t { t - from } else { 0 }
 }
 
-// The byte whose first d bits are true, or false if inverted, at every 2^z-th bit.
-fn edge(z: u32, inv: bool, d: u32) -> u8
-    requires { ⌜ (z < 4) × (d ≤ 8) ⌝ }
-    ensures { λ r. ⌜ r ≡ gather (edgeBit z inv d) 0 8 ⌝ }
-{
-    let low = ((1u32 << d) - 1) as u8;
-    if inv {
-        return (255 - low) & element::pattern_of(z);
-    }
-    low & element::pattern_of(z)
-}
-
-// Each byte v.
-pub fn paint(o: &mut [u8], v: u8)
-    ensures { λ _. ⌜ now (o .exit) ≡ fill (λ k. v) 1 (length (now (o .entry))) ⌝ }
-{
-    let mut k: usize = 0;
-    while k < o.len() {
-        o[k] = v;
-        k += 1;
-    }
-}
-
-// The first bytes lo, one mid, then hi.
-fn three(o: &mut [u8], full: usize, lo: u8, mid: u8, hi: u8)
-    ensures { λ _. ⌜ now (o .exit) ≡ fill (stepped full lo mid hi) 1 (length (now (o .entry))) ⌝ }
-{
-    let n = o.len();
-    let f = least(full, n);
-    paint(&mut o[..f], lo);
-    if n <= f {
-        return;
-    }
-    o[f] = mid;
-    let next = f + 1;
-    paint(&mut o[next..], hi);
-}
-
 // The edge's place in the expansion, the count by the counter's own size: below VL, without the lowest 1, halved.
 fn place(bits: u32, vl: u32) -> u32
     requires { ⌜ Says vl bits ⌝ }
     ensures { λ r. ⌜ r ≡ countOf vl bits * 2 ^ zeros bits ⌝ }
 {
-    let m = bits % vl;
+    let m = bits & (vl - 1);
     (m & (m - 1)) >> 1
-}
-
-// The expansion's bits from `from` on, at every 2^s-th place. A byte has the places of both sizes, which are the larger's.
-fn strip(c: Counter, vl: u32, s: u32, from: u32, o: &mut [u8])
-    requires { ⌜ Strip vl s from ⌝ }
-    ensures { λ _. ⌜ now (o .exit) ≡ row (stripBit vl (c .0) s from) (length (now (o .entry))) ⌝ }
-{
-    let bits = c.0 as u32;
-    let low = bits % 16;
-    if low == 0 {
-        paint(o, 0);
-        return;
-    }
-    let zc = u32::trailing_zeros(low);
-    let d = past(place(bits, vl), from);
-    let z = larger(zc, s);
-    let inv = bits / 32768 == 1;
-    let lo = edge(z, inv, 8);
-    let mid = edge(z, inv, d % 8);
-    let hi = edge(z, inv, 0);
-    three(o, (d / 8) as usize, lo, mid, hi);
-}
-
-// The counter's mask; no true bit for a VL that is not allowed.
-pub fn expand(c: Counter, vl: u32) -> Mask
-    ensures { λ r. ⌜ r .0 ≡ maskOf vl (c .0) ⌝ }
-{
-    let mut m = [0u8; 128];
-    if setting::length_allowed(vl) {
-        let n = (vl / 16) as usize;
-        strip(c, vl, 0, 0, &mut m[..n]);
-    }
-    Mask(m)
-}
-
-// Whether the counter says no size: all its elements are false.
-pub fn none(c: Counter) -> bool
-    ensures { λ r. ⌜ r ≡ eqb (c .0 % 16) 0 ⌝ }
-{
-    c.0 % 16 == 0
 }
 
 // Sixty-four bits, of which every 2^z-th is 1.
@@ -160,50 +76,78 @@ fn places(z: u32) -> u64
     }
 }
 
-// Sixty-four bits, the first t of them true, or false if inverted, at every 2^z-th place.
-fn long_edge(z: u32, inv: bool, t: u32) -> u64
-    requires { ⌜ (z < 4) × (t < 64) ⌝ }
-    ensures { λ r. ⌜ r ≡ gather (edgeBit z inv t) 0 64 ⌝ }
+// Sixty-four bits, those below d: all, from 64 on.
+fn ones(d: u32) -> u64
+    ensures { λ r. ⌜ r ≡ gather (λ b. ltb b d) 0 64 ⌝ }
 {
-    let low = (1u64 << t) - 1;
-    if inv {
-        return (0xffffffffffffffff - low) & places(z);
+    if d < 64 {
+        (1u64 << d) - 1
+    } else {
+        0xffffffffffffffff
     }
-    low & places(z)
 }
 
-// The whole expansion at VL 128, at a size's places: sixty-four bits, four portions of sixteen. A number that is no size counts as 64.
-pub fn short(c: Counter, size: u32) -> u64
-    ensures { λ r. ⌜ r ≡ gather (stripBit 128 (c .0) (logOf size) 0) 0 64 ⌝ }
+// Sixty-four bits of the expansion, from `from` on, at every 2^s-th place. The places of both sizes are the larger's.
+fn bits(c: Counter, vl: u32, s: u32, from: u32) -> u64
+    requires { ⌜ Strip vl s from ⌝ }
+    ensures { λ r. ⌜ r ≡ gather (stripBit vl (c .0) s from) 0 64 ⌝ }
 {
-    let bits = c.0 as u32;
-    let low = bits % 16;
-    if low == 0 {
+    let b = c.0 as u32;
+    if b % 16 == 0 {
         return 0;
     }
-    let zc = u32::trailing_zeros(low);
-    let z = larger(zc, element::log_of(size));
-    long_edge(z, bits / 32768 == 1, place(bits, 128))
+    let z = larger(element::log_said(b), s);
+    let x = ones(past(place(b, vl), from));
+    if b / 32768 == 1 {
+        return (0xffffffffffffffff - x) & places(z);
+    }
+    x & places(z)
 }
 
-fn can_extract(vl: u32, size: u32, portion: u32, room: usize) -> bool
-    ensures { λ r. ⌜ r ≡ extractable vl size portion room ⌝ }
+// The expansion's bits from `from` on, at every 2^s-th place, eight bytes at a time; two or four where there are no more.
+fn strip(c: Counter, vl: u32, s: u32, from: u32, o: &mut [u8])
+    requires { ⌜ Strip vl s from × Filled from (length (now o)) ⌝ }
+    ensures { λ _. ⌜ now (o .exit) ≡ row (stripBit vl (c .0) s from) (length (now (o .entry))) ⌝ }
 {
-    setting::length_allowed(vl)
-        & element::is_size(size)
-        & (portion < 4)
-        & (room == (vl / 64) as usize)
+    if o.len() < 8 {
+        part::write(o, bits(c, vl, s, from));
+        return;
+    }
+    let mut a: usize = 0;
+    while a < o.len() {
+        let e = a + 8;
+        part::write(&mut o[a..e], bits(c, vl, s, from + 8 * (a as u32)));
+        a = e;
+    }
 }
 
-// PEXT: a portion of the counter's mask at the instruction's own size. False, and o as it was, where there is none such.
-pub fn extract(c: Counter, vl: u32, size: u32, portion: u32, o: &mut [u8]) -> bool
-    ensures answer { λ r. ⌜ r ≡ extractable vl size portion (length (now (o .entry))) ⌝ }
-    ensures part { λ _. ⌜ now (o .exit) ≡ pick (extractable vl size portion (length (now (o .entry)))) (portionOf vl size portion (c .0)) (now (o .entry)) ⌝ }
+// The counter's mask; no true bit for a VL that is not allowed.
+pub fn expand(c: Counter, vl: u32) -> Mask
+    ensures { λ r. ⌜ r .0 ≡ maskOf vl (c .0) ⌝ }
 {
-    if !can_extract(vl, size, portion, o.len()) {
+    let mut m = [0u8; 128];
+    if setting::length_allowed(vl) {
+        let n = (vl / 16) as usize;
+        strip(c, vl, 0, 0, &mut m[..n]);
+    }
+    Mask(m)
+}
+
+fn can_extract(vl: u32, log: u32, portion: u32, room: usize) -> bool
+    ensures { λ r. ⌜ r ≡ extractable vl (sizeAt log) portion room ⌝ }
+{
+    setting::length_allowed(vl) & (log < 4) & (portion < 4) & (room == (vl / 64) as usize)
+}
+
+// PEXT: a portion of the counter's mask at the instruction's own size, given by its log. False, and o as it was, where there is none such.
+pub fn extract(c: Counter, vl: u32, log: u32, portion: u32, o: &mut [u8]) -> bool
+    ensures answer { λ r. ⌜ r ≡ extractable vl (sizeAt log) portion (length (now (o .entry))) ⌝ }
+    ensures part { λ _. ⌜ now (o .exit) ≡ pick (extractable vl (sizeAt log) portion (length (now (o .entry)))) (portionOf vl (sizeAt log) portion (c .0)) (now (o .entry)) ⌝ }
+{
+    if !can_extract(vl, log, portion, o.len()) {
         return false;
     }
-    strip(c, vl, element::log_of(size), portion * (vl / 8), o);
+    strip(c, vl, log, portion * (vl / 8), o);
     true
 }
 

@@ -41,7 +41,9 @@ slice-aggregate-strip : tie.Need-slice-aggregate-strip
 slice-aggregate-strip c = sym (part-is (c .before))
 
 strip-requires : tie.Need-strip-requires
-strip-requires c κs = record { length = known (c .before); small = lit< tt; whole = refl }
+strip-requires c κs =
+    let l = known (c .before) in
+    (record { length = l; small = lit< tt; whole = refl }, rw (part-is (c .before)) (record { few = λ h. absurd (omega arith); many = λ h. omega arith; fits = omega arith }))
 
 returns : tie.Need-returns
 returns c =

@@ -1,17 +1,17 @@
 -- `place` meets its contract: below VL the counter is the count, then a 1, then zeros.
 use borrow.Author.Needs.{needs}
-use Rattle.counter.proofs.Lengths.{some-low, place-is}
+use Rattle.counter.proofs.Lengths.{below-vl, some-low, place-is}
 use Rattle.counter.proofs.place.Statement.{statement}
 use Rattle.counter.proofs.place.Tie as tie
 
-rem-m : tie.Need-rem-m
-rem-m c = search needs
+sub-m : tie.Need-sub-m
+sub-m c = search needs
 
 sub-result : tie.Need-sub-result
-sub-result c = some-low (c .args .bits) (c .pre .some) (c .args .vl) (c .pre .length)
+sub-result c = let a = c .args in rw (below-vl (a .bits) (a .vl) (c .pre .length)) (some-low (a .bits) (c .pre .some) (a .vl) (c .pre .length))
 
 returns : tie.Need-returns
-returns c = place-is (c .args .bits) (c .pre .some) (c .args .vl) (c .pre .length)
+returns c = let a = c .args in rw (below-vl (a .bits) (a .vl) (c .pre .length)) (place-is (a .bits) (c .pre .some) (a .vl) (c .pre .length))
 
 pub place-spec : {M : Type 1} → statement M
-place-spec = tie.close (tie.spec rem-m sub-result returns)
+place-spec = tie.close (tie.spec sub-m sub-result returns)

@@ -1,102 +1,130 @@
--- `strip` meets its contract: the bytes around the edge, whose place is the count by the counter's own size.
-use mathlib.Core.Path.{_≡_, ap, _∙_}
-use mathlib.Core.Bool.{Bool}
-use Prim.Native.Nat.{ℕ, _-_, _/_, _%_, _<_}
+-- `strip` meets its contract: the bytes before a are the strip's, the others as they were.
+use mathlib.Core.Path.{_≡_, refl, sym, ap, _∙_}
+use mathlib.Core.Logic.{inr}
+use mathlib.Core.List.{_++_}
+use Prim.Native.Nat.{_+_, _-_, _%_, _≤_}
 use native.Mathlib.Omega.{arith}
 use borrow.Author.Needs.{needs}
-use lib.Dec.{eqb}
-use lib.ListN.{length}
-use Rattle.element.specs.Contents.{gather}
-use Rattle.counter.specs.Counter.{inverts}
-use Rattle.counter.specs.Strips.{edgeBit}
-use Rattle.counter.proofs.Lengths.{few-zeros, inverts-is}
-use Rattle.counter.proofs.StripLaws.{strip-is, nothing}
+use lib.ListN.{length, take, drop, length-take, length-drop}
+use Rattle.part.proofs.Widths.{stored}
+use Rattle.element.specs.Contents.{bytes, fill, octet, row}
+use Rattle.element.proofs.Filling as filling
+use Rattle.counter.specs.Strips.{stripBit}
+use Rattle.counter.proofs.Rows.{few-bytes, eight-more}
+use Rattle.counter.proofs.StripLaws.{moved}
 use Rattle.counter.proofs.strip.Statement.{statement}
 use Rattle.counter.proofs.strip.Tie as tie
 
-cast-bits : tie.Need-cast-bits
-cast-bits c = search needs
+abbrev Inv-loop : tie.InvT-loop
+Inv-loop c vl s from o₀ a₀ o a = (a ≤ length o₀) × ((a % 8 ≡ 0) × ((length o ≡ length o₀) × (o ≡ row (stripBit vl (c .0) s from) a ++ drop a o₀)))
 
-paint-requires : tie.Need-paint-requires
-paint-requires c κs = search needs
+abbrev μ-loop : tie.MeasureT-loop
+μ-loop c vl s from o₀ a₀ o a = length o₀ - a
 
-same-length : tie.Need-same-length
+bits-requires : tie.Need-bits-requires Inv-loop μ-loop
+bits-requires c κs = c .before .before .before .pre .0
+
+write-requires : tie.Need-write-requires Inv-loop μ-loop
+write-requires c κs = search needs
+
+same-length : tie.Need-same-length Inv-loop μ-loop
 same-length c = search needs
 
-returns : tie.Need-returns
+returns : tie.Need-returns Inv-loop μ-loop
 returns c =
-    let t = c .before .before .before .before in
-    let a = t .before .before .before .args in
-    c .before .before .paint .ensures ∙ nothing (a .vl) (a .c .0) (a .s) (a .from) (length (a .o .now)) (t .if1 .taken)
+    let w = c .before .before in
+    let t = w .before .before .before in
+    let s = t .before .before in
+    let a = s .args in
+    let n = length (a .o .now) in
+    w .write .ensures
+    ∙ sym (stored (a .o .now) n (w .before .bits .result) refl (s .pre .1 .few (t .if1 .taken)) refl)
+    ∙ ap (bytes n) (w .before .bits .ensures)
+    ∙ few-bytes (stripBit (a .vl) (a .c .0) (a .s) (a .from)) n (omega (arith, t .if1 .taken))
 
-place-requires : tie.Need-place-requires
-place-requires c κs = search needs
+loop-holds : tie.Need-loop-holds Inv-loop μ-loop
+unfolding row fill
+loop-holds c = (omega arith, (refl, (refl, refl)))
 
-past-requires : tie.Need-past-requires
-past-requires c κs = search needs
+-- a part of eight is left
+room : (c : tie.In-loop Inv-loop μ-loop) → c .before .loop .a + 8 ≤ length (c .before .before .before .before .args .o .now)
+room c = omega (arith, c .before .before .before .before .pre .1 .many (c .before .before .if1 .left))
 
-larger-requires : tie.Need-larger-requires
-larger-requires c κs = search needs
+add-e : tie.Need-add-e Inv-loop μ-loop
+add-e c = omega (arith, room c)
 
-larger-small : (c : tie.After-larger) → c .larger .result < 4
-larger-small c =
-    let e = c .before .before .before in
-    let s = e .before .before .before in
-    omega (arith, c .larger .ensures, few-zeros (s .args .c .0) (e .if1 .left), s .pre .small)
+sub-write : tie.Need-sub-write Inv-loop μ-loop
+sub-write c = omega arith
 
-edge-requires : tie.Need-edge-requires
-edge-requires c κs = omega (arith, larger-small c)
+part-write-start : tie.Need-part-write-start Inv-loop μ-loop
+part-write-start c = omega (arith, room c)
 
-edge-requires-2 : tie.Need-edge-requires-2
-edge-requires-2 c κs = omega (arith, larger-small (c .before))
+part-write-end : tie.Need-part-write-end Inv-loop μ-loop
+part-write-end c = omega (arith, room c)
 
-edge-requires-3 : tie.Need-edge-requires-3
-edge-requires-3 c κs = omega (arith, larger-small (c .before .before))
+cast-bits : tie.Need-cast-bits Inv-loop μ-loop
+cast-bits c = omega (arith, room (c .before))
 
-cast-three : tie.Need-cast-three
-cast-three c = search needs
+mul-bits : tie.Need-mul-bits Inv-loop μ-loop
+mul-bits c = omega (arith, room (c .before))
 
-three-requires : tie.Need-three-requires
-three-requires c κs = search needs
+add-bits : tie.Need-add-bits Inv-loop μ-loop
+add-bits c = omega (arith, room (c .before))
 
-same-length-2 : tie.Need-same-length-2
-same-length-2 c = search needs
+bits-requires-2 : tie.Need-bits-requires-2 Inv-loop μ-loop
+bits-requires-2 c κs =
+    let p = c .before .before .before .before .before .pre .0 in record { length = p .length; small = p .small; whole = omega arith }
 
-inverts-bit : (c : tie.Else1) → eqb (c .before .before .before .args .c .0 / 32768) 1 ≡ inverts (c .before .before .before .args .c .0)
-inverts-bit c = inverts-is (c .before .before .before .args .c .0) (omega arith)
+write-requires-2 : tie.Need-write-requires-2 Inv-loop μ-loop
+write-requires-2 c κs = search needs
 
-returns-2 : tie.Need-returns-2
+loop-less : tie.Need-loop-less Inv-loop μ-loop
+loop-less c = omega (arith, room (c .before .before .before .before .before))
+
+loop-again : tie.Need-loop-again Inv-loop μ-loop
+loop-again c =
+    let w = c .before .before in
+    let i = w .before .before .before in
+    let l = i .before .loop in
+    let s = i .before .before .before .before in
+    let a = s .args in
+    let g = stripBit (a .vl) (a .c .0) (a .s) (a .from) in
+    let part = take (l .a + 8 - l .a) (drop (l .a) (l .o)) in
+    let eight : length part ≡ 8 = simp (length-take, length-drop) (omega (arith, room i)) in
+    let word = w .write2 .ensures ∙ sym (stored part 8 (w .before .bits2 .result) eight (inr (inr refl)) refl) ∙ ap (bytes 8) (w .before .bits2 .ensures ∙ moved (a .vl) (a .c .0) (a .s) (a .from) (s .pre .0 .small) (s .pre .0 .whole) (l .a)) in
+    (omega (arith, room i), (omega arith, (c .before .o2 .given .1 ∙ l .inv .1 .1 .0, eight-more g (l .a) (a .o .now) (l .o) _ (l .inv .1 .1 .1) word)))
+
+same-length-2 : tie.Need-same-length-2 Inv-loop μ-loop
+same-length-2 c = c .before .loop .inv .1 .1 .0
+
+returns-2 : tie.Need-returns-2 Inv-loop μ-loop
+unfolding row
 returns-2 c =
-    let l = c .before .before .before .before .before .before .before in
-    let e = l .before .before .before in
-    let a = e .before .before .before in
-    let i = inverts-bit e in
-    let d = l .before .past .result in
-    c .before .before .three .ensures
-    ∙ strip-is (a .args .vl) (a .args .c .0) (a .args .s) (a .args .from) (l .larger .result) d
-    (c .before .before .before .before .before .before .edge .result) (c .before .before .before .before .before .edge2 .result) (c .before .before .before .before .edge3 .result) (length (a .args .o .now))
-    (a .pre .small) (a .pre .whole) (e .if1 .left)
-    (l .larger .ensures)
-    (l .before .past .ensures ∙ ap (λ (t : ℕ). t - a .args .from) (l .before .before .place .ensures))
-    (c .before .before .before .before .before .before .edge .ensures ∙ ap (λ (b : Bool). gather (edgeBit (l .larger .result) b 8) 0 8) i)
-    (c .before .before .before .before .before .edge2 .ensures ∙ ap (λ (b : Bool). gather (edgeBit (l .larger .result) b (d % 8)) 0 8) i)
-    (c .before .before .before .before .edge3 .ensures ∙ ap (λ (b : Bool). gather (edgeBit (l .larger .result) b 0) 0 8) i)
+    let l = c .before .loop in
+    let a = c .before .before .before .before .args in
+    filling.stored (octet (stripBit (a .vl) (a .c .0) (a .s) (a .from))) (l .a) (length (a .o .now)) (a .o .now) (l .o) (l .inv .0) (omega arith) refl (l .inv .1 .1 .1)
 
 pub strip-spec : {M : Type 1} → statement M
 strip-spec =
     tie.close
     (tie.spec
-    cast-bits
-    paint-requires
+    Inv-loop
+    μ-loop
+    bits-requires
+    write-requires
     same-length
     returns
-    place-requires
-    past-requires
-    larger-requires
-    edge-requires
-    edge-requires-2
-    edge-requires-3
-    cast-three
-    three-requires
+    loop-holds
+    add-e
+    sub-write
+    part-write-start
+    part-write-end
+    cast-bits
+    mul-bits
+    add-bits
+    bits-requires-2
+    write-requires-2
+    loop-less
+    loop-again
     same-length-2
     returns-2)

@@ -1,0 +1,3 @@
+pub mod Pext
+pub mod Operands
+pub mod Points

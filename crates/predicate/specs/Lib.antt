@@ -1,4 +1,0 @@
-pub mod Pext
-pub mod Dup
-pub mod Operands
-pub mod Points
