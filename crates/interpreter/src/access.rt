@@ -29,6 +29,16 @@ fn streaming(s: bool) -> Answer
     }
 }
 
+// Whether PEXT has its access, which is tested first: the number is only told where it has not.
+pub(crate) fn open(features: u32, v: bool, s: bool) -> bool
+    ensures { λ r. ⌜ r ≡ pick (hasFeature features Sve2p1) v s ⌝ }
+{
+    if setting::has_feature(features, Feature::Sve2p1) {
+        return v;
+    }
+    s
+}
+
 // V with SVE2p1, else S.
 pub(crate) fn predicates(features: u32, v: bool, s: bool) -> Answer
     ensures { λ r. ⌜ numberOf r ≡ firstFailed (pick (hasFeature features Sve2p1) (need 4 v) (need 5 s) ∷ []) ⌝ }

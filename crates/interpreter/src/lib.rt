@@ -7,7 +7,7 @@ ghost use mathlib.Core.Bool.{_&&_};
 ghost use mathlib.Core.List.{[], _∷_};
 ghost use Prim.Native.Nat.{_≤_};
 ghost use lib.Dec.{eqb, leb};
-ghost use Rattle.machine.specs.Machine.{machine, advanced, scalarsOf};
+ghost use Rattle.machine.specs.Machine.{machine, advanced};
 ghost use lib.ListN.{length};
 ghost use Rattle.setting.specs.Allowed.{allowedOf};
 ghost use Rattle.setting.specs.Numbers.{numberOf};
@@ -74,34 +74,35 @@ fn before_any(setting: Setting, z: usize, p: usize, zt: usize, words: usize) -> 
     Answer::Done
 }
 
-// One word of a run, where the setting is allowed and each file has its length. The scalars come one by one: a record would go
-// through memory, which a short word feels.
+// One word of a run, where the setting is allowed and each file has its length.
 fn step_in_run(
     z: &mut [u8],
     p: &mut [u8],
     zt: &[u8],
-    w12: u32,
-    w13: u32,
-    w14: u32,
-    w15: u32,
-    pc: u64,
-    v: bool,
-    s: bool,
-    t: bool,
+    scalars: Scalars,
     setting: Setting,
     word: u32,
 ) -> Answer
-    requires { ⌜ Checked setting (machine (now z) (now p) (now zt) (scalarsOf w12 w13 w14 w15 pc v s t)) ⌝ }
-    ensures { λ r. ⌜ steppedBy r (now (z .exit)) (now (p .exit)) (now (zt .entry)) (scalarsOf w12 w13 w14 w15 pc v s t) ≡ stepOf setting word (machine (now (z .entry)) (now (p .entry)) (now (zt .entry)) (scalarsOf w12 w13 w14 w15 pc v s t)) ⌝ }
+    requires { ⌜ Checked setting (machine (now z) (now p) (now zt) scalars) ⌝ }
+    ensures { λ r. ⌜ steppedBy r (now (z .exit)) (now (p .exit)) (now (zt .entry)) scalars ≡ stepOf setting word (machine (now (z .entry)) (now (p .entry)) (now (zt .entry)) scalars) ⌝ }
 {
     let row = decoder::row(setting.features, word);
     match row {
-        0 => words::pext1(p, setting, v, s, word),
-        1 => words::pext2(p, setting, v, s, word),
-        2 => words::dup(p, setting, w12, w13, w14, w15, v, word),
-        3 => words::luti4c(z, zt, setting, s, t, word),
-        4 => words::luti4s(z, zt, setting, s, t, word),
-        5 => words::uqrshrnb(z, setting, v, word),
+        0 => words::pext1(p, setting, scalars.v, scalars.s, word),
+        1 => words::pext2(p, setting, scalars.v, scalars.s, word),
+        2 => words::dup(
+            p,
+            setting,
+            scalars.w12,
+            scalars.w13,
+            scalars.w14,
+            scalars.w15,
+            scalars.v,
+            word,
+        ),
+        3 => words::luti4c(z, zt, setting, scalars.s, scalars.t, word),
+        4 => words::luti4s(z, zt, setting, scalars.s, scalars.t, word),
+        5 => words::uqrshrnb(z, setting, scalars.v, word),
         _ => Answer::Undefined,
     }
 }
@@ -111,28 +112,30 @@ fn step_alone(
     z: &mut [u8],
     p: &mut [u8],
     zt: &[u8],
-    w12: u32,
-    w13: u32,
-    w14: u32,
-    w15: u32,
-    pc: u64,
-    v: bool,
-    s: bool,
-    t: bool,
+    scalars: Scalars,
     setting: Setting,
     word: u32,
 ) -> Answer
-    requires { ⌜ Checked setting (machine (now z) (now p) (now zt) (scalarsOf w12 w13 w14 w15 pc v s t)) ⌝ }
-    ensures { λ r. ⌜ steppedBy r (now (z .exit)) (now (p .exit)) (now (zt .entry)) (scalarsOf w12 w13 w14 w15 pc v s t) ≡ stepOf setting word (machine (now (z .entry)) (now (p .entry)) (now (zt .entry)) (scalarsOf w12 w13 w14 w15 pc v s t)) ⌝ }
+    requires { ⌜ Checked setting (machine (now z) (now p) (now zt) scalars) ⌝ }
+    ensures { λ r. ⌜ steppedBy r (now (z .exit)) (now (p .exit)) (now (zt .entry)) scalars ≡ stepOf setting word (machine (now (z .entry)) (now (p .entry)) (now (zt .entry)) scalars) ⌝ }
 {
     let row = decoder::row(setting.features, word);
     match row {
-        0 => words::pext1(p, setting, v, s, word),
-        1 => words::pext2(p, setting, v, s, word),
-        2 => words::dup(p, setting, w12, w13, w14, w15, v, word),
-        3 => words::luti4c(z, zt, setting, s, t, word),
-        4 => words::luti4s(z, zt, setting, s, t, word),
-        5 => words::uqrshrnb(z, setting, v, word),
+        0 => words::pext1(p, setting, scalars.v, scalars.s, word),
+        1 => words::pext2(p, setting, scalars.v, scalars.s, word),
+        2 => words::dup(
+            p,
+            setting,
+            scalars.w12,
+            scalars.w13,
+            scalars.w14,
+            scalars.w15,
+            scalars.v,
+            word,
+        ),
+        3 => words::luti4c(z, zt, setting, scalars.s, scalars.t, word),
+        4 => words::luti4s(z, zt, setting, scalars.s, scalars.t, word),
+        5 => words::uqrshrnb(z, setting, scalars.v, word),
         _ => Answer::Undefined,
     }
 }
@@ -142,44 +145,23 @@ fn checked_run(
     z: &mut [u8],
     p: &mut [u8],
     zt: &[u8],
-    w12: u32,
-    w13: u32,
-    w14: u32,
-    w15: u32,
-    pc: u64,
-    v: bool,
-    s: bool,
-    t: bool,
+    scalars: Scalars,
     setting: Setting,
     words: &[u32],
     done: &mut u32,
 ) -> Answer
-    requires { ⌜ Checked setting (machine (now z) (now p) (now zt) (scalarsOf w12 w13 w14 w15 pc v s t)) × (length (now words) ≤ 256) ⌝ }
-    ensures { λ r. ⌜ (wentAs (numberOf r) (now (done .exit)) (now (z .exit)) (now (p .exit)) (now (zt .entry)) (scalarsOf w12 w13 w14 w15 pc v s t) ≡ steps (refusalOf setting) (execOf setting) (now (words .entry)) 0 (machine (now (z .entry)) (now (p .entry)) (now (zt .entry)) (scalarsOf w12 w13 w14 w15 pc v s t))) × (now (done .exit) ≤ 256) ⌝ }
+    requires { ⌜ Checked setting (machine (now z) (now p) (now zt) scalars) × (length (now words) ≤ 256) ⌝ }
+    ensures { λ r. ⌜ (wentAs (numberOf r) (now (done .exit)) (now (z .exit)) (now (p .exit)) (now (zt .entry)) scalars ≡ steps (refusalOf setting) (execOf setting) (now (words .entry)) 0 (machine (now (z .entry)) (now (p .entry)) (now (zt .entry)) scalars)) × (now (done .exit) ≤ 256) ⌝ }
 {
-    let mut at = pc;
+    let mut held = scalars;
     let mut n: u32 = 0;
     while (n as usize) < words.len() {
-        let answer = step_in_run(
-            &mut *z,
-            &mut *p,
-            zt,
-            w12,
-            w13,
-            w14,
-            w15,
-            at,
-            v,
-            s,
-            t,
-            setting,
-            words[n as usize],
-        );
+        let answer = step_in_run(&mut *z, &mut *p, zt, held, setting, words[n as usize]);
         if setting::number(answer) != 0 {
             *done = n;
             return answer;
         }
-        at = std::num::wrapping_add_u64(at, 4);
+        held = advance(held);
         n += 1;
     }
     *done = n;
@@ -204,21 +186,7 @@ pub fn step(
             scalars,
         };
     }
-    let answer = step_alone(
-        z,
-        p,
-        zt,
-        scalars.w12,
-        scalars.w13,
-        scalars.w14,
-        scalars.w15,
-        scalars.pc,
-        scalars.v,
-        scalars.s,
-        scalars.t,
-        setting,
-        word,
-    );
+    let answer = step_alone(z, p, zt, scalars, setting, word);
     Stepped {
         answer,
         scalars: moved_by(answer, scalars),
@@ -245,22 +213,7 @@ pub fn run(
         };
     }
     let mut done: u32 = 0;
-    let answer = checked_run(
-        z,
-        p,
-        zt,
-        scalars.w12,
-        scalars.w13,
-        scalars.w14,
-        scalars.w15,
-        scalars.pc,
-        scalars.v,
-        scalars.s,
-        scalars.t,
-        setting,
-        words,
-        &mut done,
-    );
+    let answer = checked_run(z, p, zt, scalars, setting, words, &mut done);
     Ran {
         answer,
         done: done as usize,

@@ -6,7 +6,8 @@ ghost use Prim.Native.Nat.{_-_, _≤_, _<_};
 ghost use lib.ListN.{getD};
 ghost use Rattle.element.specs.Size.{pick};
 ghost use Rattle.setting.specs.Numbers.{numberOf};
-ghost use Rattle.predicate.specs.Dup.{dupLeaves};
+ghost use Rattle.element.specs.Units.{sizeAt};
+ghost use Rattle.dup.specs.Dup.{dupLeaves};
 ghost use Rattle.lookup.specs.Calls.{luti4File};
 ghost use Rattle.narrow.specs.Calls.{narrowFile};
 ghost use Rattle.machine.specs.Done.{PredicateWord, VectorWord, TablelessWord, HasV, HasVS, HasST, HasWV, ifDone};
@@ -18,15 +19,14 @@ use setting::Setting;
 pub(crate) fn pext1(p: &mut [u8], setting: Setting, v: bool, s: bool, word: u32) -> Answer
     ensures { λ r. ⌜ PredicateWord 0 setting word (HasVS v s) r (now (p .entry)) (now (p .exit)) ⌝ }
 {
-    let answer = access::predicates(setting.features, v, s);
-    if setting::number(answer) != 0 {
-        return answer;
+    if !access::open(setting.features, v, s) {
+        return access::predicates(setting.features, v, s);
     }
     let o = decoder::operands_at(0, word);
-    predicate::pext(
+    pext::pext(
         p,
         setting.vl,
-        o.size,
+        o.log,
         o.immediate,
         1,
         o.source,
@@ -38,15 +38,14 @@ pub(crate) fn pext1(p: &mut [u8], setting: Setting, v: bool, s: bool, word: u32)
 pub(crate) fn pext2(p: &mut [u8], setting: Setting, v: bool, s: bool, word: u32) -> Answer
     ensures { λ r. ⌜ PredicateWord 1 setting word (HasVS v s) r (now (p .entry)) (now (p .exit)) ⌝ }
 {
-    let answer = access::predicates(setting.features, v, s);
-    if setting::number(answer) != 0 {
-        return answer;
+    if !access::open(setting.features, v, s) {
+        return access::predicates(setting.features, v, s);
     }
     let o = decoder::operands_at(1, word);
-    predicate::pext(
+    pext::pext(
         p,
         setting.vl,
-        o.size,
+        o.log,
         2 * o.immediate,
         2,
         o.source,
@@ -55,17 +54,14 @@ pub(crate) fn pext2(p: &mut [u8], setting: Setting, v: bool, s: bool, word: u32)
     Answer::Done
 }
 
-// W12 to W15.
+// W12 to W15, chosen without a jump.
 fn index_register(w12: u32, w13: u32, w14: u32, w15: u32, number: u32) -> u32
     requires { ⌜ (12 ≤ number) × (number < 16) ⌝ }
     ensures { λ r. ⌜ r ≡ getD (w12 ∷ w13 ∷ w14 ∷ w15 ∷ []) (number - 12) 0 ⌝ }
 {
-    match number {
-        12 => w12,
-        13 => w13,
-        14 => w14,
-        _ => w15,
-    }
+    let low = if number == 13 { w13 } else { w12 };
+    let high = if number == 15 { w15 } else { w14 };
+    if number < 14 { low } else { high }
 }
 
 fn duplicate(
@@ -73,20 +69,20 @@ fn duplicate(
     vl: u32,
     v: bool,
     w: u32,
-    size: u32,
+    log: u32,
     offset: u32,
     pg: u32,
     pn: u32,
     pd: u32,
 ) -> Answer
     ensures answer { λ r. ⌜ numberOf r ≡ pick v 0 4 ⌝ }
-    ensures file { λ r. ⌜ now (p .exit) ≡ ifDone (numberOf r) (dupLeaves vl size w offset pg pn pd (now (p .entry))) (now (p .entry)) ⌝ }
+    ensures file { λ r. ⌜ now (p .exit) ≡ ifDone (numberOf r) (dupLeaves vl (sizeAt log) w offset pg pn pd (now (p .entry))) (now (p .entry)) ⌝ }
 {
     let answer = access::vectors(v);
     if setting::number(answer) != 0 {
         return answer;
     }
-    predicate::dup(p, vl, size, w, offset, pg, pn, pd);
+    dup::dup(p, vl, log, w, offset, pg, pn, pd);
     Answer::Done
 }
 
@@ -104,7 +100,7 @@ pub(crate) fn dup(
 {
     let o = decoder::operands_of_dup(word);
     let w = index_register(w12, w13, w14, w15, o.index);
-    duplicate(p, setting.vl, v, w, o.size, o.offset, o.pg, o.pn, o.pd)
+    duplicate(p, setting.vl, v, w, o.log, o.offset, o.pg, o.pn, o.pd)
 }
 
 // ---- the vectors
@@ -123,9 +119,8 @@ fn look_up(
     ensures answer { λ r. ⌜ numberOf r ≡ pick s (pick t 0 6) 5 ⌝ }
     ensures file { λ r. ⌜ now (z .exit) ≡ ifDone (numberOf r) (luti4File vl size i1 zn first stride (now (zt .entry)) (now (z .entry))) (now (z .entry)) ⌝ }
 {
-    let answer = access::table(s, t);
-    if setting::number(answer) != 0 {
-        return answer;
+    if !(s & t) {
+        return access::table(s, t);
     }
     lookup::luti4(z, zt, vl, size, i1, zn, first, stride);
     Answer::Done

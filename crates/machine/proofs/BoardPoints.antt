@@ -9,13 +9,15 @@ use Rattle.element.specs.Contents.{bytes, field, fill, gather, octet, row}
 use Rattle.encoding.specs.Decode.{decodeOf}
 use Rattle.encoding.specs.Points.{readingPoints}
 use Rattle.encoding.proofs.BoardPoints.{reading-points}
-use Rattle.narrow.specs.Points.{vectorPoints}
-use Rattle.narrow.proofs.BoardPoints.{vector-points}
+use Rattle.narrow.specs.Points.{narrowPoints}
+use Rattle.narrow.proofs.BoardPoints.{narrow-points}
 use Rattle.counter.specs.Points.{counterPoints}
 use Rattle.counter.proofs.BoardPoints.{counter-points}
-use Rattle.predicate.specs.Dup.{indexOf, valueOf, dupBit, dupOf}
-use Rattle.predicate.specs.Points.{predicatePoints}
-use Rattle.predicate.proofs.BoardPoints.{predicate-points}
+use Rattle.pext.specs.Points.{pextPoints}
+use Rattle.pext.proofs.BoardPoints.{pext-points}
+use Rattle.dup.specs.Dup.{indexOf, valueOf, dupBit, dupOf}
+use Rattle.dup.specs.Points.{dupPoints}
+use Rattle.dup.proofs.BoardPoints.{dup-points}
 use Rattle.machine.specs.Gives.{givesOf}
 use Rattle.machine.specs.Points.{elementPoints, starred}
 
@@ -29,7 +31,7 @@ element-points = (refl, (refl, (refl, tt)))
 
 pub starred-points : Every starred
 starred-points =
-    every-append readingPoints (vectorPoints ++ (counterPoints ++ (predicatePoints ++ elementPoints))) reading-points
-    (every-append vectorPoints (counterPoints ++ (predicatePoints ++ elementPoints)) vector-points
-    (every-append counterPoints (predicatePoints ++ elementPoints) counter-points
-    (every-append predicatePoints elementPoints predicate-points element-points)))
+    every-append readingPoints (narrowPoints ++ (counterPoints ++ (pextPoints ++ (dupPoints ++ elementPoints)))) reading-points
+    (every-append narrowPoints (counterPoints ++ (pextPoints ++ (dupPoints ++ elementPoints))) narrow-points
+    (every-append counterPoints (pextPoints ++ (dupPoints ++ elementPoints)) counter-points
+    (every-append pextPoints (dupPoints ++ elementPoints) pext-points (every-append dupPoints elementPoints dup-points element-points))))

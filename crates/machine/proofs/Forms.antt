@@ -17,8 +17,8 @@ use Rattle.encoding.specs.Decode.{firstOf, readAt}
 use Rattle.encoding.specs.declared.Instruction.{Instruction}
 use Rattle.encoding.specs.declared.Instruction.the-variants.{Pext1, Pext2, Dup, Luti4c, Luti4s, Uqrshrnb}
 use Rattle.encoding.proofs.Choice.{read-past, first-is-read}
-use Rattle.predicate.specs.Pext.{pextLeaves}
-use Rattle.predicate.specs.Dup.{dupLeaves}
+use Rattle.pext.specs.Pext.{pextLeaves}
+use Rattle.dup.specs.Dup.{dupLeaves}
 use Rattle.lookup.specs.Calls.{luti4File}
 use Rattle.narrow.specs.Calls.{narrowFile}
 use Rattle.machine.specs.Machine.{Machine, machine}

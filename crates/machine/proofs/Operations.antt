@@ -19,8 +19,8 @@ use Rattle.element.proofs.Units.{size-cases}
 use Rattle.encoding.proofs.FieldBits.{strided-zd}
 use Rattle.encoding.proofs.InRange.{pext-ranges, dup-ranges, luti-ranges, narrow-ranges}
 use Rattle.encoding.specs.declared.Instruction.the-variants.{Pext1, Pext2, Dup, Luti4c, Luti4s, Uqrshrnb}
-use Rattle.predicate.specs.Pext.{pextReady, pextSlots, pextLeaves}
-use Rattle.predicate.specs.Dup.{dupReady, dupLeaves}
+use Rattle.pext.specs.Pext.{pextReady, pextSlots, pextLeaves}
+use Rattle.dup.specs.Dup.{dupReady, dupLeaves}
 use Rattle.lookup.specs.Lookup.{lutiFile}
 use Rattle.narrow.specs.Narrow.{uqrshrnbFile}
 use Rattle.lookup.specs.Calls.{luti4Ready, luti4File}

@@ -2,8 +2,8 @@
 use mathlib.Core.List.{List, [], _∷_}
 use Prim.Native.Nat.{ℕ, _+_, _*_, _/_, _%_}
 use lib.ListN.{getD}
-use Rattle.predicate.specs.Pext.{pextOf}
-use Rattle.predicate.specs.Dup.{dupOf}
+use Rattle.pext.specs.Pext.{pextOf}
+use Rattle.dup.specs.Dup.{dupOf}
 use Rattle.lookup.specs.Lookup.{lutiOf}
 use Rattle.narrow.specs.Narrow.{uqrshrnbOf}
 use Rattle.encoding.specs.declared.Instruction.{Instruction}

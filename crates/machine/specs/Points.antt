@@ -2,9 +2,10 @@
 use mathlib.Core.Path.{_≡_}
 use mathlib.Core.List.{List, [], _∷_, _++_}
 use Rattle.encoding.specs.Points.{board, readingPoints}
-use Rattle.narrow.specs.Points.{vectorPoints}
+use Rattle.narrow.specs.Points.{narrowPoints}
 use Rattle.counter.specs.Points.{counterPoints}
-use Rattle.predicate.specs.Points.{predicatePoints}
+use Rattle.pext.specs.Points.{pextPoints}
+use Rattle.dup.specs.Points.{dupPoints}
 use Rattle.machine.specs.Machine.{P, W}
 use Rattle.machine.specs.Step.{reads, gives}
 
@@ -17,6 +18,6 @@ elementPoints =
     ∷ (gives board 0x252c4000 ((0xff ∷ 0xff ∷ []) ∷ (0xfe ∷ 0xff ∷ []) ∷ (0xffffffff ∷ []) ∷ []) ≡ (0x00 ∷ 0x00 ∷ []) ∷ [])
     ∷ []
 
--- 1 to 3 and the readings of 10; 4 and 5; 7 and 8; 6, 9 and the index of 10; the rest of 10
+-- 1 to 3 and the readings of 10; 4 and 5; 7 and 8; 6 and 9; the index of 10; the rest of 10
 abbrev pub starred : List (Type 0)
-starred = readingPoints ++ (vectorPoints ++ (counterPoints ++ (predicatePoints ++ elementPoints)))
+starred = readingPoints ++ (narrowPoints ++ (counterPoints ++ (pextPoints ++ (dupPoints ++ elementPoints))))

@@ -2,8 +2,8 @@
 use mathlib.Core.Path.{refl}
 use Rattle.narrow.specs.Narrow.{rounded, narrowed}
 use Rattle.element.specs.Every.{Every}
-use Rattle.narrow.specs.Points.{vectorPoints}
+use Rattle.narrow.specs.Points.{narrowPoints}
 
-pub vector-points : Every vectorPoints
+pub narrow-points : Every narrowPoints
 unfolding narrowed rounded
-vector-points = (refl, (refl, (refl, (refl, (refl, tt)))))
+narrow-points = (refl, (refl, (refl, (refl, (refl, tt)))))

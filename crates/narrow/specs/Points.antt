@@ -4,8 +4,8 @@ use mathlib.Core.List.{List, [], _∷_}
 use Prim.Native.Nat.{_-_, _^_}
 use Rattle.narrow.specs.Narrow.{narrowed}
 
-abbrev pub vectorPoints : List (Type 0)
-vectorPoints =
+abbrev pub narrowPoints : List (Type 0)
+narrowPoints =
     -- 4: s 8, shift 8: 007f, 0080, ff7f, ff80
     (narrowed 8 8 0x007f ≡ 0)
     ∷ (narrowed 8 8 0x0080 ≡ 1)

@@ -6,7 +6,7 @@ ghost use mathlib.Core.Path.{_≡_};
 ghost use lib.ListN.{length};
 ghost use Rattle.narrow.specs.Calls.{restReady, narrowReady, narrowFile};
 ghost use Rattle.element.specs.Every.{Every};
-ghost use Rattle.narrow.specs.Points.{vectorPoints};
+ghost use Rattle.narrow.specs.Points.{narrowPoints};
 
 // All but that the size is one of three, which is tested where each has its loop.
 fn rest_ready(z: usize, vl: u32, size: u32, shift: u32, zn: u32, zd: u32) -> bool
@@ -30,5 +30,5 @@ pub fn uqrshrnb(z: &mut [u8], vl: u32, size: u32, shift: u32, zn: u32, zd: u32) 
 
 // The starred points about these definitions. It does nothing: its promise has the check demand their proofs.
 pub fn claims()
-    ensures { λ r. ⌜ Every vectorPoints ⌝ }
+    ensures { λ r. ⌜ Every narrowPoints ⌝ }
 {}

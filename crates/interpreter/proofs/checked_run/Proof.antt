@@ -7,7 +7,7 @@ use lib.ListN.{length, drop}
 use borrow.Author.Needs.{needs}
 use Rattle.setting.specs.declared.Setting.{Setting}
 use Rattle.order.specs.Steps.{steps}
-use Rattle.machine.specs.Machine.{machine, scalarsOf}
+use Rattle.machine.specs.Machine.{machine}
 use Rattle.machine.specs.Step.{refusalOf, execOf}
 use Rattle.machine.specs.Done.{Checked, movedOn}
 use Rattle.machine.specs.declared.Scalars.{Scalars}
@@ -26,10 +26,10 @@ record Running (z₀ p₀ zt : List ℕ) (s : Setting) (words : List ℕ) (befor
   left : steps (refusalOf s) (execOf s) (drop done words) done (machine z p zt held) ≡ steps (refusalOf s) (execOf s) words 0 (machine z₀ p₀ zt before)
 
 abbrev Inv-loop : tie.InvT-loop
-Inv-loop z₀ p₀ zt w12 w13 w14 w15 pc v s t setting words done₀ at₀ n₀ z p done at n = Running z₀ p₀ zt setting words (scalarsOf w12 w13 w14 w15 pc v s t) z p (scalarsOf w12 w13 w14 w15 at v s t) n
+Inv-loop z₀ p₀ zt setting words done₀ held₀ n₀ z p done held n = Running z₀ p₀ zt setting words held₀ z p held n
 
 abbrev μ-loop : tie.MeasureT-loop
-μ-loop z₀ p₀ zt w12 w13 w14 w15 pc v s t setting words done₀ at₀ n₀ z p done at n = length words - n
+μ-loop z₀ p₀ zt setting words done₀ held₀ n₀ z p done held n = length words - n
 
 loop-holds : tie.Need-loop-holds Inv-loop μ-loop
 loop-holds c = record { short = c .before .before .before .before .pre .1; within = omega arith; vectors = refl; predicates = refl; checked = c .before .before .before .before .pre .0; scalars = moved-on-none 0 _ refl; left = refl }
@@ -63,8 +63,8 @@ returns c = let l = c .before .before .before .before .before .before .before .b
     let k = c .before .before .before .before .before .before .step-in-run in
     (stopped-unmoved _ _ (l .n) _ _ _ _ _ _ _ (omega arith) (k .ensures) (l .inv .left) _ (l .inv .scalars) (λ h. c .if1 .taken (c .before .number .ensures ∙ h)), omega (arith, l .inv .within, l .inv .short))
 
-wrapping-add-u64-requires : tie.Need-wrapping-add-u64-requires Inv-loop μ-loop
-wrapping-add-u64-requires c κs = search needs
+advance-requires : tie.Need-advance-requires Inv-loop μ-loop
+advance-requires c κs = search needs
 
 add-n : tie.Need-add-n Inv-loop μ-loop
 add-n c = omega arith
@@ -74,19 +74,17 @@ loop-less c = omega arith
 
 loop-again : tie.Need-loop-again Inv-loop μ-loop
 loop-again c = let l = c .before .before .before .before .before .before .before .before .before .before .before .before .loop in
-    let a = c .before .before .before .before .before .before .before .before .before .before .before .before .before .before .before .before .before .args in
     let k = c .before .before .before .before .before .before .before .step-in-run in
     let y = k .kept .0 in
     let x = k .kept .1 .0 in
-    let held : ℕ → Scalars = λ n. scalarsOf (a .w12) (a .w13) (a .w14) (a .w15) n (a .v) (a .s) (a .t) in
     record {
       short = l .inv .short;
       within = omega arith;
       vectors = y ∙ l .inv .vectors;
       predicates = x ∙ l .inv .predicates;
       checked = still-checked _ _ _ _ _ _ _ _ y x (l .inv .checked);
-      scalars = ap held (c .wrapping-add-u64 .ensures) ∙ moved-on-once _ _ _ (l .inv .scalars);
-      left = went-on-moved _ _ (l .n) _ _ _ _ _ _ _ (omega arith) (k .ensures) (l .inv .left) _ (ap held (c .wrapping-add-u64 .ensures)) (sym (c .before .before .number .ensures) ∙ c .before .if1 .left);
+      scalars = c .advance .ensures ∙ moved-on-once _ _ _ (l .inv .scalars);
+      left = went-on-moved _ _ (l .n) _ _ _ _ _ _ _ (omega arith) (k .ensures) (l .inv .left) _ (c .advance .ensures) (sym (c .before .before .number .ensures) ∙ c .before .if1 .left);
     }
 
 same-length-3 : tie.Need-same-length-3 Inv-loop μ-loop
@@ -114,7 +112,7 @@ checked-run-spec =
     same-length
     same-length-2
     returns
-    wrapping-add-u64-requires
+    advance-requires
     add-n
     loop-less
     loop-again

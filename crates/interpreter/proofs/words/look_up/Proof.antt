@@ -1,6 +1,6 @@
 -- `look_up` meets its contract: refused as its access is, with the file as it was, or done as its leaf does.
-use mathlib.Core.Path.{_∙_}
 use Rattle.machine.proofs.Forms.{kept}
+use Rattle.interpreter.proofs.Flags.{has-table, lacks-table}
 use borrow.Author.Needs.{needs}
 use Rattle.interpreter.proofs.words.look_up.Statement.{statement}
 use Rattle.interpreter.proofs.words.look_up.Tie as tie
@@ -8,11 +8,8 @@ use Rattle.interpreter.proofs.words.look_up.Tie as tie
 table-requires : tie.Need-table-requires
 table-requires c κs = search needs
 
-number-requires : tie.Need-number-requires
-number-requires c κs = search needs
-
 returns : tie.Need-returns
-returns c = (c .before .before .table .ensures, kept _ _ _ (λ e. c .if1 .taken (c .before .number .ensures ∙ e)))
+returns c = let a = c .before .before .before .before .args in (c .table .ensures, kept _ _ _ (lacks-table (a .s) (a .t) (c .before .if1 .taken) (c .table .ensures)))
 
 luti4-requires : tie.Need-luti4-requires
 luti4-requires c κs = search needs
@@ -21,14 +18,13 @@ same-length : tie.Need-same-length
 same-length c = search needs
 
 returns-2 : tie.Need-returns-2
-returns-2 c = search needs
+returns-2 c = let a = c .before .before .before .before .before .before .before .args in (has-table (a .s) (a .t) (c .before .before .before .before .if1 .left), c .before .before .luti4 .ensures .1)
 
 pub look-up-spec : {M : Type 1} → statement M
 look-up-spec =
     tie.close
     (tie.spec
     table-requires
-    number-requires
     returns
     luti4-requires
     same-length
