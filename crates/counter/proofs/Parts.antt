@@ -1,4 +1,4 @@
--- The whole expansion and a portion are strips of it; a strip with zeros behind it is the mask.
+-- The whole expansion and a portion are strips of it, bit by bit; a strip with zeros behind it is the mask; and what the tests before an extraction say.
 use mathlib.Core.Path.{_≡_, refl, sym, ap, _∙_}
 use mathlib.Core.Bool.{Bool, true, false, _&&_}
 use mathlib.Core.Logic.{inl, inr}
@@ -69,12 +69,12 @@ register-filled =
     (λ h. absurd (omega arith), λ h. refl)
     (λ h. absurd (omega arith), λ h. refl)
 
-pub start-fits : (p vl : ℕ) → p < 4 → vl ≤ 2048 → p * (vl / 8) ≤ 768
+start-fits : (p vl : ℕ) → p < 4 → vl ≤ 2048 → p * (vl / 8) ≤ 768
 start-fits p vl h l =
     let a : p ≤ 3 = omega arith in
     let b : vl / 8 ≤ 256 = omega arith in mul-le-mul a b
 
-pub start-whole : (p vl : ℕ) → vl % 128 ≡ 0 → p * (vl / 8) % 8 ≡ 0
+start-whole : (p vl : ℕ) → vl % 128 ≡ 0 → p * (vl / 8) % 8 ≡ 0
 start-whole p vl even =
     let e : vl / 8 ≡ 8 * (vl / 64) = omega arith in
     let q : p * (vl / 8) ≡ 8 * (p * (vl / 64)) = rw e (mul-left-comm p 8 (vl / 64)) in omega arith

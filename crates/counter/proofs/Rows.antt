@@ -43,7 +43,7 @@ module _ (g : ℕ → Bool) where
       let moved = same (λ j. octet g (k + 1 + j)) (λ j. octet g (k + (1 + j))) 1 n (λ j l. let e : k + 1 + j ≡ k + (1 + j) = omega arith in rw e) in
       ap₂ (λ (b : ℕ) (l : List ℕ). b ∷ l) first (ap (bytes n) rest ∙ octets n (k + 1) r ∙ moved) ∙ sym (fill-more f 1 1 n) ∙ ap (fill f 1) one
 
-  -- of the first digits
+  -- and so of the first sixty-four, for a row of few bytes
   pub few-bytes : (n : ℕ) → n ≤ 8 → bytes n (gather g 0 64) ≡ row g n
   unfolding row
   few-bytes n h =

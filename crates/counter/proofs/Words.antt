@@ -10,6 +10,7 @@ use Rattle.element.specs.Contents.{digit, gather}
 use Rattle.element.proofs.Below.{below}
 use Rattle.element.proofs.Filling.{gather-same}
 
+-- a 1 shifted below 64 places is there: a test over the places
 some : ℕ → Bool
 some d = leb 1 ((1 * 2 ^ d) % 2 ^ 64)
 
@@ -26,6 +27,7 @@ pub below-place : (d : ℕ) → d < 64 → (1 * 2 ^ d) % 2 ^ 64 - 1 ≡ gather (
 unfolding lower
 below-place d h = eqb→eq ((1 * 2 ^ d) % 2 ^ 64 - 1) (gather (λ b. ltb b d) 0 64) (below lower 64 tt d h)
 
+-- from 64 on all bits are below the place
 pub below-far : (d : ℕ) → 64 ≤ d → 2 ^ 64 - 1 ≡ gather (λ b. ltb b d) 0 64
 unfolding gather
 below-far d h = gather-same (λ (b : ℕ). true) (λ b. ltb b d) 64 0 0 (λ j l. sym (lt-ltb (0 + j) d (omega arith)))

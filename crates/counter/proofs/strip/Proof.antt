@@ -91,7 +91,8 @@ loop-again c =
     let g = stripBit (a .vl) (a .c .0) (a .s) (a .from) in
     let part = take (l .a + 8 - l .a) (drop (l .a) (l .o)) in
     let eight : length part ≡ 8 = simp (length-take, length-drop) (omega (arith, room i)) in
-    let word = w .write2 .ensures ∙ sym (stored part 8 (w .before .bits2 .result) eight (inr (inr refl)) refl) ∙ ap (bytes 8) (w .before .bits2 .ensures ∙ moved (a .vl) (a .c .0) (a .s) (a .from) (s .pre .0 .small) (s .pre .0 .whole) (l .a)) in
+    let next = w .before .bits2 .ensures ∙ moved (a .vl) (a .c .0) (a .s) (a .from) (s .pre .0 .small) (s .pre .0 .whole) (l .a) in
+    let word = w .write2 .ensures ∙ sym (stored part 8 (w .before .bits2 .result) eight (inr (inr refl)) refl) ∙ ap (bytes 8) next in
     (omega (arith, room i), (omega arith, (c .before .o2 .given .1 ∙ l .inv .1 .1 .0, eight-more g (l .a) (a .o .now) (l .o) _ (l .inv .1 .1 .1) word)))
 
 same-length-2 : tie.Need-same-length-2 Inv-loop μ-loop
