@@ -5,7 +5,7 @@ use Prim.Native.Nat.{ℕ, suc, _+_, _*_, _/_, _%_, _≤_, _<_}
 use native.Mathlib.Nat.{mul-assoc, mul-comm, mul-suc, mul-le-mul-left, mul-le-mul-right, le-trans, suc-mul, div-mul-le-self, mul-div-le, le-div-iff-mul-le}
 use native.Mathlib.Omega.{arith}
 use lib.Dec.{lit<}
-use Rattle.lookup.specs.Needed.{Kind, LutiReady}
+use Rattle.lookup.specs.Needed.{Element, Result, LutiReady}
 use Rattle.lookup.specs.Claims.{PositionInside, SevenNeverComes}
 
 -- the indexes of the destinations up to r have at most VL bits
@@ -29,31 +29,32 @@ seven-never-comes s vl i1 r e h l b =
     let i : 4 * suc (i1 % (s / 16)) * 4 ≤ s = ⊎-elim (λ (a : s ≡ 16). rw a (omega arith)) (λ (a : s ≡ 32). rw a (omega arith)) h in
     position-inside 4 s vl 4 (i1 % (s / 16)) r e (lit< tt) i l b
 
--- the index bytes of a destination
-pub each-is : {k s : ℕ} (vl : ℕ) → vl % 128 ≡ 0 → Kind k → (s ≡ 16) ⊎ (s ≡ 32) → vl / s * k / 8 * (8 / k) ≡ vl / s
-each-is {k} {s} vl e h r =
+-- the bytes of indexes of a destination say its elements, two each
+pub each-is : {s : ℕ} (vl : ℕ) → vl % 128 ≡ 0 → Result s → vl / s * 4 / 8 * 2 ≡ vl / s
+each-is {s} vl e r =
     let f : vl / 16 ≡ 8 * (vl / 128) = omega arith in
     let g : vl / 32 ≡ 4 * (vl / 128) = omega arith in
-    ⊎-elim
-    (λ (a : k ≡ 2). ⊎-elim (λ (b : s ≡ 16). rw (a, b, f) (omega arith)) (λ (b : s ≡ 32). rw (a, b, g) (omega arith)) r)
-    (λ (a : k ≡ 4). ⊎-elim (λ (b : s ≡ 16). rw (a, b, f) (omega arith)) (λ (b : s ≡ 32). rw (a, b, g) (omega arith)) r)
-    h
+    ⊎-elim (λ (b : s ≡ 16). rw (b, f) (omega arith)) (λ (b : s ≡ 32). rw (b, g) (omega arith)) r
 
 -- a register's elements are its bytes
-pub elements-are : {s : ℕ} (vl : ℕ) → vl % 128 ≡ 0 → (s ≡ 16) ⊎ (s ≡ 32) → vl / s * (s / 8) ≡ vl / 8
+pub elements-are : {s : ℕ} (vl : ℕ) → vl % 128 ≡ 0 → Result s → vl / s * (s / 8) ≡ vl / 8
 elements-are vl e r = ⊎-elim (λ b. rw b (omega arith)) (λ b. rw b (omega arith)) r
 
-pub element-of : {s : ℕ} → (s ≡ 16) ⊎ (s ≡ 32) → (s / 8 ≡ 2) ⊎ (s / 8 ≡ 4)
+-- the one of two that is left
+pub second : {A B : Type 0} → A ⊎ B → (A → ⊥) → B
+second h n = ⊎-elim (λ a. absurd (n a)) (λ b. b) h
+
+pub element-of : {s : ℕ} → Result s → Element (s / 8)
 element-of r = ⊎-map (λ b. rw b) (λ b. rw b) r
 
-pub size-bounds : {s : ℕ} → (s ≡ 16) ⊎ (s ≡ 32) → (16 ≤ s) × (s ≤ 32)
+pub size-bounds : {s : ℕ} → Result s → (16 ≤ s) × (s ≤ 32)
 size-bounds r = ⊎-elim (λ b. (omega arith, omega arith)) (λ b. (omega arith, omega arith)) r
 
--- what the code's arithmetic asks at destination r
-pub record Turn (vl k s d segment first stride r : ℕ) : Type 0 where
+-- what the code's arithmetic asks at destination r, which has `each` bytes of indexes
+pub record Turn (vl d segment first stride each r : ℕ) : Type 0 where
   pub number : d * segment + r < 32
   pub register : first + stride * r < 32
-  pub inside : (d * segment + r) * (vl / s * k / 8) + vl / s * k / 8 ≤ vl / 8
+  pub inside : (d * segment + r) * each + each ≤ vl / 8
 
 module _ {file table vl k s d segment zn first stride : ℕ} (op : LutiReady file table vl k s d segment zn first stride) (r : ℕ) (l : r < d) where
   number : d * segment + r < 32
@@ -75,5 +76,5 @@ module _ {file table vl k s d segment zn first stride : ℕ} (op : LutiReady fil
       let q : n * (vl / s * k / 8) ≤ vl / 8 = le-div-iff-mul-le (lit< tt) .1 (le-trans g h) in
       let m = suc-mul (d * segment + r) (vl / s * k / 8) in omega arith
 
-  pub turn-at : Turn vl k s d segment first stride r
-  turn-at = record { number = number; register = register; inside = bytes-inside }
+  pub turn-at : {each : ℕ} → each ≡ vl / s * k / 8 → Turn vl d segment first stride each r
+  turn-at e = record { number = number; register = register; inside = rw e bytes-inside }

@@ -1,28 +1,48 @@
 -- Document 01, "LUTI4": what the private functions ask of their callers.
 use mathlib.Core.Path.{_≡_}
 use mathlib.Core.Logic.{_⊎_}
-use Prim.Native.Nat.{ℕ, suc, _*_, _+_, _/_, _≤_, _<_}
+use mathlib.Core.List.{List}
+use Prim.Native.Nat.{ℕ, suc, _*_, _+_, _%_, _^_, _≤_, _<_}
+use lib.ListN.{length, getD}
+use Rattle.element.specs.Contents.{elem}
 use Rattle.part.specs.Parts.{Lengths}
 
--- the index widths that the code can take, in bits; LUTI4's is 4
+-- the index widths that the laws of places take, in bits; LUTI4's is 4
 abbrev pub Kind : ℕ → Type 0
 Kind k = (k ≡ 2) ⊎ (k ≡ 4)
 
--- one byte of indexes of k bits, spread over elements of w bytes
-pub record SpreadReady (table room k w : ℕ) : Type 0 where
-  pub entries : table ≡ 64
-  pub kind : Kind k
-  pub width : (w ≡ 2) ⊎ (w ≡ 4)
-  pub whole : room ≡ 8 / k * w
+-- an element's bytes, and its bits
+abbrev pub Element : ℕ → Type 0
+Element w = (w ≡ 2) ⊎ (w ≡ 4)
 
--- n bytes of indexes from `first` on
-pub record LookReady (source table room k w first n : ℕ) : Type 0 where
+abbrev pub Result : ℕ → Type 0
+Result s = (s ≡ 16) ⊎ (s ≡ 32)
+
+-- one entry of the table
+pub record EntryReady (table i : ℕ) : Type 0 where
   pub entries : table ≡ 64
-  pub kind : Kind k
-  pub width : (w ≡ 2) ⊎ (w ≡ 4)
-  pub inside : first + n ≤ source
-  pub most : source ≤ 256
-  pub whole : room ≡ n * (8 / k * w)
+  pub inside : i < 16
+
+-- the table's entries, each cut to below m and raised by it
+abbrev pub Raised : ℕ → List ℕ → List ℕ → Type 0
+Raised m table high = (i : ℕ) → i < 16 → getD high i 0 ≡ elem 4 i table % m * m
+
+pub record RaisedReady (table m : ℕ) : Type 0 where
+  pub entries : table ≡ 64
+  pub some : 0 < m
+  pub most : m ≤ 4294967296
+
+pub record TableReady (table w : ℕ) : Type 0 where
+  pub entries : table ≡ 64
+  pub width : Element w
+
+-- two elements of w bytes for each byte of indexes
+pub record PairsReady (source room m w : ℕ) (table high : List ℕ) : Type 0 where
+  pub entries : length table ≡ 64
+  pub raised : Raised m table high
+  pub width : Element w
+  pub power : m ≡ 256 ^ w
+  pub whole : room ≡ source * (2 * w)
 
 -- d destinations of indexes of k bits; the segment lies in Zn
 pub record LutiReady (file table vl k s d segment zn first stride : ℕ) : Type 0 where
@@ -30,7 +50,7 @@ pub record LutiReady (file table vl k s d segment zn first stride : ℕ) : Type 
   pub entries : table ≡ 64
   pub lengths : Lengths vl
   pub kind : Kind k
-  pub result : (s ≡ 16) ⊎ (s ≡ 32)
+  pub result : Result s
   pub inside : d * suc segment * k ≤ s
   pub some : 0 < d
   pub from : zn < 32

@@ -1,50 +1,116 @@
-// LUTI4 on a lent vector file: the lookups, over the index width.
+// LUTI4 on a lent vector file: the lookups, two elements for each byte of indexes.
 ghost use mathlib.Core.Path.{_≡_};
-ghost use Prim.Native.Nat.{_+_, _*_, _/_, _%_, _^_};
+ghost use Prim.Native.Nat.{_+_, _*_, _/_, _^_, _≤_, _<_};
 ghost use lib.ListN.{length};
 ghost use Rattle.element.specs.Contents.{elem, field, fill};
+ghost use Rattle.element.specs.Slots.{slot};
 ghost use Rattle.lookup.specs.Lookup.{lutiFile};
-ghost use Rattle.lookup.specs.Needed.{SpreadReady, LookReady, LutiReady};
+ghost use Rattle.lookup.specs.Needed.{EntryReady, Raised, RaisedReady, TableReady, PairsReady, Result, LutiReady};
 
-// One byte of indexes of k bits: the 8 / k elements that it says.
-fn spread(zt: &[u8], b: u8, k: u32, w: usize, o: &mut [u8])
-    requires { ⌜ SpreadReady (length (now zt)) (length (now o)) k w ⌝ }
-    ensures { λ _. ⌜ now (o .exit) ≡ fill (λ j. elem 4 (b / 2 ^ (j * k) % 2 ^ k) (now (zt .entry))) w (8 / k) ⌝ }
+// The entry of ZT0 at a place.
+fn entry(zt: &[u8], i: usize) -> u64
+    requires { ⌜ EntryReady (length (now zt)) i ⌝ }
+    ensures { λ r. ⌜ (r ≡ elem 4 i (now (zt .entry))) × (r < 4294967296) ⌝ }
 {
-    let per = (8 / k) as usize;
-    let m = 1u32 << k;
-    let mut x = b as u32;
-    let mut j: usize = 0;
-    while j < per {
-        let t = ((x % m) * 4) as usize;
-        let u = t + 4;
-        let v = part::read(&zt[t..u]);
-        let a = j * w;
-        let e = a + w;
-        part::write(&mut o[a..e], v);
-        x = x >> k;
-        j += 1;
-    }
+    let a = i * 4;
+    let b = a + 4;
+    part::read(&zt[a..b])
 }
 
-// The index bytes from `first` on, n of them.
-fn look(s: &[u8], zt: &[u8], k: u32, w: usize, first: usize, n: usize, o: &mut [u8])
-    requires { ⌜ LookReady (length (now s)) (length (now zt)) (length (now o)) k w first n ⌝ }
-    ensures { λ _. ⌜ now (o .exit) ≡ fill (λ e. elem 4 (field k (first * (8 / k) + e) (now (s .entry))) (now (zt .entry))) w (n * (8 / k)) ⌝ }
+// The low bytes of each entry, raised past as many: m is 256 to their number.
+fn raised(zt: &[u8], m: u64) -> [u64; 16]
+    requires { ⌜ RaisedReady (length (now zt)) m ⌝ }
+    ensures { λ r. ⌜ Raised m (now (zt .entry)) r ⌝ }
 {
-    let per = (8 / k) as usize;
-    let step = per * w;
+    let mut t = [0u64; 16];
+    let mut i: usize = 0;
+    while i < 16 {
+        t[i] = entry(zt, i) % m * m;
+        i += 1;
+    }
+    t
+}
+
+// Two elements for each byte of indexes, both written at once.
+fn pairs(s: &[u8], zt: &[u8], high: &[u64; 16], m: u64, w: usize, o: &mut [u8])
+    requires { ⌜ PairsReady (length (now s)) (length (now o)) m w (now zt) (now high) ⌝ }
+    ensures { λ _. ⌜ now (o .exit) ≡ fill (λ e. elem 4 (field 4 e (now (s .entry))) (now (zt .entry))) w (length (now (s .entry)) * 2) ⌝ }
+{
     let mut q: usize = 0;
-    while q < n {
-        let i = first + q;
-        let a = q * step;
-        let e = a + step;
-        spread(zt, s[i], k, w, &mut o[a..e]);
+    while q < s.len() {
+        let b = s[q];
+        let a = q * (2 * w);
+        let e = a + 2 * w;
+        let r = entry(zt, (b % 16) as usize) % m + high[(b / 16) as usize];
+        part::write(&mut o[a..e], r);
         q += 1;
     }
 }
 
-// Zn is copied first, so that it may be a destination. The index width is a literal: the compiler makes a loop for it.
+// The same by 64 bytes of the destination, whose number is a literal, so that LLVM unrolls the loop; then the rest.
+fn look(s: &[u8], zt: &[u8], high: &[u64; 16], m: u64, w: usize, o: &mut [u8])
+    requires { ⌜ PairsReady (length (now s)) (length (now o)) m w (now zt) (now high) ⌝ }
+    ensures { λ _. ⌜ now (o .exit) ≡ fill (λ e. elem 4 (field 4 e (now (s .entry))) (now (zt .entry))) w (length (now (s .entry)) * 2) ⌝ }
+{
+    let per = 32 / w;
+    let n = s.len() / per;
+    let mut q: usize = 0;
+    while q < n {
+        let i = q * per;
+        let j = i + per;
+        let a = q * 64;
+        let e = a + 64;
+        pairs(&s[i..j], zt, high, m, w, &mut o[a..e]);
+        q += 1;
+    }
+    let i = n * per;
+    let a = n * 64;
+    pairs(&s[i..], zt, high, m, w, &mut o[a..]);
+}
+
+// Each width with its power as a literal: the compiler makes a loop for it.
+fn raised_by(zt: &[u8], w: usize) -> [u64; 16]
+    requires { ⌜ TableReady (length (now zt)) w ⌝ }
+    ensures { λ r. ⌜ Raised (256 ^ w) (now (zt .entry)) r ⌝ }
+{
+    if w == 2 {
+        return raised(zt, 65536);
+    }
+    raised(zt, 4294967296)
+}
+
+fn look_by(s: &[u8], zt: &[u8], high: &[u64; 16], w: usize, o: &mut [u8])
+    requires { ⌜ PairsReady (length (now s)) (length (now o)) (256 ^ w) w (now zt) (now high) ⌝ }
+    ensures { λ _. ⌜ now (o .exit) ≡ fill (λ e. elem 4 (field 4 e (now (s .entry))) (now (zt .entry))) w (length (now (s .entry)) * 2) ⌝ }
+{
+    if w == 2 {
+        look(s, zt, high, 65536, 2, o);
+        return;
+    }
+    look(s, zt, high, 4294967296, 4, o);
+}
+
+// A register's bytes, all 256 of them: LLVM then need not clear the copy.
+fn slot_of(z: &[u8], k: usize) -> [u8; 256]
+    requires { ⌜ 256 * k + 256 ≤ length (now z) ⌝ }
+    ensures { λ r. ⌜ r ≡ slot 256 256 k (now (z .entry)) ⌝ }
+{
+    let a = 256 * k;
+    let b = a + 256;
+    let mut s = [0u8; 256];
+    bytes::copy(&z[a..b], &mut s);
+    s
+}
+
+// How many bytes of indexes a destination has, with no division by a variable.
+fn index_bytes(vl: usize, size: usize) -> usize
+    requires { ⌜ Result size ⌝ }
+    ensures { λ r. ⌜ r ≡ vl / size * 4 / 8 ⌝ }
+{
+    if size == 16 { vl / 32 } else { vl / 64 }
+}
+
+// Zn is copied first, so that it may be a destination.
 pub(crate) fn luti4_file(
     z: &mut [u8],
     zt: &[u8],
@@ -60,17 +126,16 @@ pub(crate) fn luti4_file(
 {
     let n = vl / 8;
     let w = size / 8;
-    let each = vl / size * 4 / 8;
-    let a = 256 * zn;
-    let b = a + n;
-    let mut s = [0u8; 256];
-    bytes::copy(&z[a..b], &mut s);
+    let each = index_bytes(vl, size);
+    let s = slot_of(z, zn);
+    let high = raised_by(zt, w);
     let mut r: usize = 0;
     while r < 4 {
         let from = (4 * segment + r) * each;
+        let to = from + each;
         let d = 256 * (first + stride * r);
         let e = d + n;
-        look(&s[..n], zt, 4, w, from, each, &mut z[d..e]);
+        look_by(&s[from..to], zt, &high, w, &mut z[d..e]);
         r += 1;
     }
 }

@@ -1,100 +1,163 @@
--- `look` meets its contract: after q turns o begins with the elements of the first q index bytes. The measure is what is left of the count.
-use mathlib.Core.Path.{_≡_, refl, _∙_}
+-- `look` meets its contract: after q turns o begins with the elements of the first q chunks, and the rest comes last. The measure is what is left of the chunks.
+use mathlib.Core.Path.{_≡_, refl, sym, ap, _∙_}
 use mathlib.Core.List.{_++_}
 use Prim.Native.Nat.{ℕ, _+_, _-_, _*_, _/_, _≤_}
-use native.Mathlib.Nat.{zero-mul}
+use native.Mathlib.Nat.{zero-mul, mul-assoc}
 use native.Mathlib.Omega.{arith}
+use borrow.Author.Needs.{needs}
 use lib.ListN.{length, drop}
 use Rattle.element.specs.Contents.{elem, field, fill}
-use Rattle.element.proofs.Filling.{turn, part-length, chunk, chunked}
-use Rattle.lookup.proofs.Lookups.{sizes, step-fits, byte-looked}
+use Rattle.element.proofs.Slots.{reach}
+use Rattle.lookup.proofs.Lookups.{sizes, taken-length, taken-looked}
+use Rattle.lookup.proofs.Chunks.{Chunks, chunks-of, chunk-elements, chunk-within, chunk-again, rest-done}
 use Rattle.lookup.proofs.table.look.Statement.{statement}
 use Rattle.lookup.proofs.table.look.Tie as tie
 
 abbrev Inv-loop : tie.InvT-loop
-Inv-loop s zt k w first n o₀ per step q₀ o q =
-    (q ≤ n) × ((length o ≡ length o₀) × (o ≡ fill (λ (e : ℕ). elem 4 (field k (first * (8 / k) + e) s) zt) w (q * (8 / k)) ++ drop (q * (8 / k * w)) o₀))
+Inv-loop s zt high m w o₀ per n q₀ o q =
+    (q ≤ n) × ((length o ≡ length o₀) × (o ≡ fill (λ (e : ℕ). elem 4 (field 4 e s) zt) w (q * (32 / w * 2)) ++ drop (q * 64) o₀))
 
 abbrev μ-loop : tie.MeasureT-loop
-μ-loop s zt k w first n o₀ per step q₀ o q = n - q
+μ-loop s zt high m w o₀ per n q₀ o q = n - q
+
+-- the chunks, at the loop's test
+chunks : (c : tie.At-loop Inv-loop μ-loop) → let a = c .before .before .before .before .args in Chunks (length (a .s .now)) (a .w) (length (a .s .now) / (32 / a .w))
+chunks c = chunks-of (length (c .before .before .before .before .args .s .now)) (c .before .before .before .before .pre .width)
+
+within : (c : tie.In-loop Inv-loop μ-loop) → let a = c .before .before .before .before .before .args in c .before .loop .q * (32 / a .w) + 32 / a .w ≤ length (a .s .now)
+within c = chunk-within _ (c .before .loop .q) (chunks (c .before)) (c .loop-test .taken)
 
 div-per : tie.Need-div-per Inv-loop μ-loop
-div-per c = let h = sizes (c .before .before .before .pre .kind) in omega arith
+div-per c = let h = sizes (c .before .before .before .pre .width) in omega arith
 
-cast-per : tie.Need-cast-per Inv-loop μ-loop
-cast-per c = let h = sizes (c .before .before .before .pre .kind) in record { fits = omega arith }
-
-mul-step : tie.Need-mul-step Inv-loop μ-loop
-mul-step c = let p = c .before .before .before .pre in let h = step-fits (p .kind) (p .width) in omega arith
+div-n : tie.Need-div-n Inv-loop μ-loop
+div-n c = let h = sizes (c .before .before .before .pre .width) in omega arith
 
 loop-holds : tie.Need-loop-holds Inv-loop μ-loop
 unfolding fill
 loop-holds c = (omega arith, (refl, simp zero-mul))
 
-room : (c : tie.In-loop Inv-loop μ-loop) → c .before .loop .q * (8 / c .before .before .before .before .before .args .k * c .before .before .before .before .before .args .w) + 8 / c .before .before .before .before .before .args .k * c .before .before .before .before .before .args .w ≤ length (c .before .loop .o)
-room c =
-    let a = c .before .before .before .before .before in
-    let t = turn (c .before .loop .q) (a .args .n) (8 / a .args .k * a .args .w) (c .loop-test .taken) in
-    let p = a .pre .whole in omega arith
+mul-i : tie.Need-mul-i Inv-loop μ-loop
+mul-i c = let h = within c in let k = chunks (c .before) in omega arith
 
-add-i : tie.Need-add-i Inv-loop μ-loop
-add-i c = omega arith
+add-j : tie.Need-add-j Inv-loop μ-loop
+add-j c = let h = within c in let k = chunks (c .before) in omega arith
 
 mul-a : tie.Need-mul-a Inv-loop μ-loop
-mul-a c = omega (arith, room c)
+mul-a c = let h = within c in let k = chunks (c .before) in omega arith
 
 add-e : tie.Need-add-e Inv-loop μ-loop
-add-e c = omega (arith, room c)
+add-e c = let h = within c in let k = chunks (c .before) in omega arith
 
-shared-slice-read-spread : tie.Need-shared-slice-read-spread Inv-loop μ-loop
-shared-slice-read-spread c = omega arith
+sub-pairs : tie.Need-sub-pairs Inv-loop μ-loop
+sub-pairs c = let h = within c in let k = chunks (c .before) in omega arith
 
-sub-spread : tie.Need-sub-spread Inv-loop μ-loop
-sub-spread c = omega (arith, room (c .before))
+part-pairs-start : tie.Need-part-pairs-start Inv-loop μ-loop
+part-pairs-start c = let h = within c in let k = chunks (c .before) in omega arith
 
-part-spread-start : tie.Need-part-spread-start Inv-loop μ-loop
-part-spread-start c = omega (arith, room (c .before))
+part-pairs-end : tie.Need-part-pairs-end Inv-loop μ-loop
+part-pairs-end c = let h = within c in let k = chunks (c .before) in omega arith
 
-part-spread-end : tie.Need-part-spread-end Inv-loop μ-loop
-part-spread-end c = omega (arith, room (c .before))
+sub-pairs-2 : tie.Need-sub-pairs-2 Inv-loop μ-loop
+sub-pairs-2 c = let k = chunks (c .before .before) in omega arith
 
-spread-requires : tie.Need-spread-requires Inv-loop μ-loop
-spread-requires c κs =
+part-pairs-start-2 : tie.Need-part-pairs-start-2 Inv-loop μ-loop
+part-pairs-start-2 c = let k = chunks (c .before .before) in omega arith
+
+part-pairs-end-2 : tie.Need-part-pairs-end-2 Inv-loop μ-loop
+part-pairs-end-2 c = let k = chunks (c .before .before) in omega arith
+
+pairs-requires : tie.Need-pairs-requires Inv-loop μ-loop
+pairs-requires c κs =
     let a = c .before .before .before .before .before .before .before in
     let l = c .before .before .before .loop in
+    let k = chunks (c .before .before .before) in
     record {
       entries = a .pre .entries;
-      kind = a .pre .kind;
+      raised = a .pre .raised;
       width = a .pre .width;
-      whole = part-length (l .q) (a .args .n) (8 / a .args .k * a .args .w) (l .o) (c .before .before .loop-test .taken) (l .inv .1 .0 ∙ a .pre .whole);
+      power = a .pre .power;
+      whole = rw (taken-length (l .q * (32 / a .args .w)) (a .args .s .now) (reach (l .q * (32 / a .args .w)) (32 / a .args .w)) (within (c .before .before)), taken-length (l .q * 64) (l .o) (reach (l .q * 64) 64) (omega arith)) (sym (sizes (a .pre .width) .chunk));
     }
 
 add-q : tie.Need-add-q Inv-loop μ-loop
-add-q c = omega arith
+add-q c = let k = chunks (c .before .before .before .before .before .before) in omega arith
 
 loop-less : tie.Need-loop-less Inv-loop μ-loop
-loop-less c = omega arith
+loop-less c = search needs
 
 loop-again : tie.Need-loop-again Inv-loop μ-loop
 loop-again c =
     let a = c .before .before .before .before .before .before .before .before .before .before in
-    let l = c .before .before .before .before .before .before .loop in (
+    let l = c .before .before .before .before .before .before .loop in
+    let p = 32 / a .args .w in (
       omega arith,
       (
         c .before .o .given .1 ∙ l .inv .1 .0,
-        chunk (λ (e : ℕ). elem 4 (field (a .args .k) (a .args .first * (8 / a .args .k) + e) (a .args .s .now)) (a .args .zt .now)) (a .args .w) (8 / a .args .k) (l .q) (a .args .o .now) (l .o) _ (l .inv .1 .1)
-            (c .before .before .spread .ensures ∙ byte-looked (a .args .w) (a .args .first) (l .q) (a .args .s .now) (a .args .zt .now) (a .pre .kind)),
+        chunk-again (λ (e : ℕ). elem 4 (field 4 e (a .args .s .now)) (a .args .zt .now)) (a .args .w) (p * 2) 64 (l .q) (a .args .o .now) (l .o) _ (chunk-elements (a .pre .width)) (l .inv .1 .1)
+            (c .before .before .pairs .ensures ∙ taken-looked (a .args .w) (l .q * p) (a .args .s .now) (a .args .zt .now) (reach (l .q * p) p) (mul-assoc (l .q) p 2) (within (c .before .before .before .before .before))),
       ),
     )
 
+mul-i-2 : tie.Need-mul-i-2 Inv-loop μ-loop
+mul-i-2 c = let k = chunks (c .before) in omega arith
+
+mul-a-2 : tie.Need-mul-a-2 Inv-loop μ-loop
+mul-a-2 c = let k = chunks (c .before) in omega arith
+
+sub-pairs-3 : tie.Need-sub-pairs-3 Inv-loop μ-loop
+sub-pairs-3 c = let k = chunks (c .before) in omega arith
+
+part-pairs-start-3 : tie.Need-part-pairs-start-3 Inv-loop μ-loop
+part-pairs-start-3 c = let k = chunks (c .before) in omega arith
+
+part-pairs-end-3 : tie.Need-part-pairs-end-3 Inv-loop μ-loop
+part-pairs-end-3 c = let k = chunks (c .before) in omega arith
+
+sub-pairs-4 : tie.Need-sub-pairs-4 Inv-loop μ-loop
+sub-pairs-4 c = let k = chunks (c .before .before) in omega arith
+
+part-pairs-start-4 : tie.Need-part-pairs-start-4 Inv-loop μ-loop
+part-pairs-start-4 c = let k = chunks (c .before .before) in omega arith
+
+part-pairs-end-4 : tie.Need-part-pairs-end-4 Inv-loop μ-loop
+part-pairs-end-4 c = let k = chunks (c .before .before) in omega arith
+
+pairs-requires-2 : tie.Need-pairs-requires-2 Inv-loop μ-loop
+pairs-requires-2 c κs =
+    let a = c .before .before .before .before .before .before .before in
+    let l = c .before .before .before .loop in
+    let k = chunks (c .before .before .before) in
+    let n = length (a .args .s .now) / (32 / a .args .w) in
+    let e : length (l .o) ≡ length (a .args .s .now) * (2 * a .args .w) = l .inv .1 .0 ∙ a .pre .whole in
+    let i : n * (32 / a .args .w) + (length (a .args .s .now) - n * (32 / a .args .w)) ≤ length (a .args .s .now) = omega arith in
+    let j : n * 64 + (length (l .o) - n * 64) ≤ length (l .o) = omega arith in
+    record {
+      entries = a .pre .entries;
+      raised = a .pre .raised;
+      width = a .pre .width;
+      power = a .pre .power;
+      whole = rw (taken-length (n * (32 / a .args .w)) (a .args .s .now) refl i, taken-length (n * 64) (l .o) refl j, e) (k .rest);
+    }
+
 same-length : tie.Need-same-length Inv-loop μ-loop
-same-length c = c .before .loop .inv .1 .0
+same-length c = c .before .o2 .given .1 ∙ c .before .before .before .before .before .before .loop .inv .1 .0
 
 returns : tie.Need-returns Inv-loop μ-loop
 returns c =
-    let a = c .before .before .before .before .before in
-    let l = c .before .loop in
-    chunked (λ (e : ℕ). elem 4 (field (a .args .k) (a .args .first * (8 / a .args .k) + e) (a .args .s .now)) (a .args .zt .now)) (a .args .w) (8 / a .args .k) (l .q) (a .args .n) (a .args .o .now) (l .o) (l .inv .0) (c .loop-test .left) (a .pre .whole) (l .inv .1 .1)
+    let a = c .before .before .before .before .before .before .before .before .before .before in
+    let l = c .before .before .before .before .before .before .loop in
+    let k = chunks (c .before .before .before .before .before .before) in
+    let p = 32 / a .args .w in
+    let n = length (a .args .s .now) / p in
+    let f : ℕ → ℕ = λ (e : ℕ). elem 4 (field 4 e (a .args .s .now)) (a .args .zt .now) in
+    let q : l .q ≡ n = omega arith in
+    let i : l .o ≡ fill f (a .args .w) (n * (p * 2)) ++ drop (n * 64) (a .args .o .now) = l .inv .1 .1 ∙ rw q in
+    let e : n * (p * 2) * a .args .w ≡ n * 64 = mul-assoc n (p * 2) (a .args .w) ∙ ap (λ (x : ℕ). n * x) (chunk-elements (a .pre .width)) in
+    let t : n * (p * 2) + (length (a .args .s .now) - n * p) * 2 ≡ length (a .args .s .now) * 2 = omega (arith, mul-assoc n p 2) in
+    rest-done f (a .args .w) (n * (p * 2)) ((length (a .args .s .now) - n * p) * 2) (n * 64) (a .args .o .now) (l .o) _ e i
+    (c .before .before .pairs2 .ensures ∙ taken-looked (a .args .w) (n * p) (a .args .s .now) (a .args .zt .now) refl (mul-assoc n p 2) (omega arith))
+    ∙ ap (fill f (a .args .w)) t
 
 pub look-spec : {M : Type 1} → statement M
 look-spec =
@@ -103,19 +166,30 @@ look-spec =
     Inv-loop
     μ-loop
     div-per
-    cast-per
-    mul-step
+    div-n
     loop-holds
-    add-i
+    mul-i
+    add-j
     mul-a
     add-e
-    shared-slice-read-spread
-    sub-spread
-    part-spread-start
-    part-spread-end
-    spread-requires
+    sub-pairs
+    part-pairs-start
+    part-pairs-end
+    sub-pairs-2
+    part-pairs-start-2
+    part-pairs-end-2
+    pairs-requires
     add-q
     loop-less
     loop-again
+    mul-i-2
+    mul-a-2
+    sub-pairs-3
+    part-pairs-start-3
+    part-pairs-end-3
+    sub-pairs-4
+    part-pairs-start-4
+    part-pairs-end-4
+    pairs-requires-2
     same-length
     returns)
