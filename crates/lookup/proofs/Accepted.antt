@@ -14,7 +14,7 @@ use Rattle.lookup.specs.Calls.{fourFit, luti4Ready}
 use Rattle.lookup.specs.Needed.{LutiReady}
 
 module _ (z zt vl size i1 zn first stride : ℕ) (ready : luti4Ready z zt vl size i1 zn first stride ≡ true) where
-  pub luti4-accepted : LutiReady z zt vl 4 size 4 (i1 % (size / 16)) zn first stride
+  pub luti4-accepted : LutiReady z zt vl 4 size 4 (i1 % (size / 16)) zn first stride × (i1 < 2)
   unfolding luti4Ready
   luti4-accepted =
       let a = both-yes _ (fourFit first stride) ready in
@@ -22,19 +22,22 @@ module _ (z zt vl size i1 zn first stride : ℕ) (ready : luti4Ready z zt vl siz
       let f = both-yes (eqb z 8192 && eqb zt 64) (lengthAllowed vl) (b .0) in
       let g = both-yes (eqb z 8192) (eqb zt 64) (f .0) in
       let n = both-yes ((eqb size 16 || eqb size 32) && ltb i1 2) (ltb zn 32) (b .1) in
-      let s = ⊎-map (eqb-true size 16) (eqb-true size 32) (one-yes (eqb size 16) (eqb size 32) (both-yes (eqb size 16 || eqb size 32) (ltb i1 2) (n .0) .0)) in
-      let d = ltb-true (first + 3 * stride) 32 (both-yes (eqb stride 1 || eqb stride 4) (ltb (first + 3 * stride) 32) (a .1) .1) in
-      record {
-        slots = eqb-true z 8192 (g .0);
-        entries = eqb-true zt 64 (g .1);
-        lengths = lengths-of vl (f .1);
-        kind = inr refl;
-        result = s;
-        inside = ⊎-elim (λ (e : size ≡ 16). rw e (omega arith)) (λ (e : size ≡ 32). rw e (omega arith)) s;
-        some = lit< tt;
-        from = ltb-true zn 32 (n .1);
-        to = omega arith;
-      }
+      let k = both-yes (eqb size 16 || eqb size 32) (ltb i1 2) (n .0) in
+      let s = ⊎-map (eqb-true size 16) (eqb-true size 32) (one-yes (eqb size 16) (eqb size 32) (k .0)) in
+      let d = ltb-true (first + 3 * stride) 32 (both-yes (eqb stride 1 || eqb stride 4) (ltb (first + 3 * stride) 32) (a .1) .1) in (
+        record {
+          slots = eqb-true z 8192 (g .0);
+          entries = eqb-true zt 64 (g .1);
+          lengths = lengths-of vl (f .1);
+          kind = inr refl;
+          result = s;
+          inside = ⊎-elim (λ (e : size ≡ 16). rw e (omega arith)) (λ (e : size ≡ 32). rw e (omega arith)) s;
+          some = lit< tt;
+          from = ltb-true zn 32 (n .1);
+          to = omega arith;
+        },
+        ltb-true i1 2 (k .1),
+      )
 
 ltb-add : (a b k : ℕ) → ltb a b ≡ ltb (a + k) (b + k)
 ltb-add a b k = split (decLt a b) where

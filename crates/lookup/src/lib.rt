@@ -50,13 +50,12 @@ pub fn luti4(
     if !luti4_ready(z.len(), zt.len(), vl, size, i1, zn, first, stride) {
         return false;
     }
-    let segment = i1 % (size / 16);
     table::luti4_file(
         z,
         zt,
         vl as usize,
         size as usize,
-        segment as usize,
+        i1 as usize,
         zn as usize,
         first as usize,
         stride as usize,

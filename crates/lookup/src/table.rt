@@ -1,6 +1,6 @@
 // LUTI4 on a lent vector file: the lookups, two elements for each byte of indexes.
 ghost use mathlib.Core.Path.{_≡_};
-ghost use Prim.Native.Nat.{_+_, _*_, _/_, _^_, _≤_, _<_};
+ghost use Prim.Native.Nat.{_+_, _*_, _/_, _%_, _^_, _≤_, _<_};
 ghost use lib.ListN.{length};
 ghost use Rattle.element.specs.Contents.{elem, field, fill};
 ghost use Rattle.element.specs.Slots.{slot};
@@ -111,7 +111,7 @@ fn index_bytes(vl: usize, size: usize) -> usize
 }
 
 // Zn is copied first, so that it may be a destination.
-pub(crate) fn luti4_file(
+fn four(
     z: &mut [u8],
     zt: &[u8],
     vl: usize,
@@ -138,4 +138,26 @@ pub(crate) fn luti4_file(
         look_by(&s[from..to], zt, &high, w, &mut z[d..e]);
         r += 1;
     }
+}
+
+// Each size with its segment, of which 16 bits have one. Two calls that differ in two numbers stay two for LLVM, which then keeps
+// `four` apart and tests what a word's fields say where these are read.
+pub(crate) fn luti4_file(
+    z: &mut [u8],
+    zt: &[u8],
+    vl: usize,
+    size: usize,
+    i1: usize,
+    zn: usize,
+    first: usize,
+    stride: usize,
+)
+    requires { ⌜ LutiReady (length (now z)) (length (now zt)) vl 4 size 4 (i1 % (size / 16)) zn first stride × (i1 < 2) ⌝ }
+    ensures { λ _. ⌜ now (z .exit) ≡ lutiFile 4 size vl 4 (i1 % (size / 16)) zn first stride (now (zt .entry)) (now (z .entry)) 4 ⌝ }
+{
+    if size == 16 {
+        four(z, zt, vl, 16, 0, zn, first, stride);
+        return;
+    }
+    four(z, zt, vl, 32, i1, zn, first, stride);
 }

@@ -1,12 +1,10 @@
 -- `luti4` meets its contract: a refused call leaves the file, an accepted one meets what the private function asks.
 use mathlib.Core.Path.{sym}
-use Prim.Native.Nat.{_-_, _/_, _%_}
-use native.Mathlib.Omega.{arith}
+use Prim.Native.Nat.{_/_, _%_, _<_}
 use lib.ListN.{length}
 use Rattle.element.proofs.Tests.{said-no, said-yes}
 use Rattle.lookup.specs.Calls.{luti4File}
 use Rattle.lookup.specs.Needed.{LutiReady}
-use Rattle.lookup.proofs.Places.{size-bounds}
 use Rattle.lookup.proofs.Accepted.{luti4-accepted}
 use borrow.Author.Needs.{needs}
 use Rattle.lookup.proofs.luti4.Statement.{statement}
@@ -19,14 +17,8 @@ returns : tie.Need-returns
 unfolding luti4File
 returns c = let n = said-no (c .before .luti4-ready .ensures) (c .if1 .taken) in (sym n, rw n)
 
-accepted : (c : tie.Else1) → let a = c .before .before .before .before .args in LutiReady (length (a .z .now)) (length (a .zt .now)) (a .vl) 4 (a .size) 4 (a .i1 % (a .size / 16)) (a .zn) (a .first) (a .stride)
+accepted : (c : tie.Else1) → let a = c .before .before .before .before .args in LutiReady (length (a .z .now)) (length (a .zt .now)) (a .vl) 4 (a .size) 4 (a .i1 % (a .size / 16)) (a .zn) (a .first) (a .stride) × (a .i1 < 2)
 accepted c = luti4-accepted _ _ _ _ _ _ _ _ (said-yes (c .before .luti4-ready .ensures) (c .if1 .left))
-
-rem-segment : tie.Need-rem-segment
-rem-segment c = let b = size-bounds (accepted c .result) in omega arith
-
-cast-luti4-file : tie.Need-cast-luti4-file
-cast-luti4-file c = let o = accepted (c .before) in let b = size-bounds (o .result) in record { fits = omega arith }
 
 luti4-file-requires : tie.Need-luti4-file-requires
 luti4-file-requires c κs = accepted (c .before)
@@ -46,8 +38,6 @@ luti4-spec =
     (tie.spec
     luti4-ready-requires
     returns
-    rem-segment
-    cast-luti4-file
     luti4-file-requires
     same-length
     returns-2)

@@ -1,158 +1,41 @@
--- `luti4_file` meets its contract: after r turns the file is the definition's, all of the copy of Zn. The measure is what is left of the four.
-use mathlib.Core.Path.{_≡_, refl, sym, ap, _∙_}
-use Prim.Native.Nat.{ℕ, _+_, _-_, _*_, _/_, _≤_}
+-- `luti4_file` meets its contract: each size's segment is the definition's.
+use mathlib.Core.Path.{_≡_}
+use mathlib.Core.Logic.{⊎-elim}
+use Prim.Native.Nat.{_/_, _%_}
 use native.Mathlib.Omega.{arith}
-use lib.ListN.{length, length-take, length-drop}
-use Rattle.element.proofs.Slots.{slot-length, part-length}
-use Rattle.lookup.specs.Lookup.{lutiFile}
-use Rattle.lookup.proofs.Places.{element-of, Turn, turn-at}
-use Rattle.lookup.proofs.Files.{room-is, turned}
+use borrow.Author.Needs.{needs}
 use Rattle.lookup.proofs.table.luti4_file.Statement.{statement}
 use Rattle.lookup.proofs.table.luti4_file.Tie as tie
 
-abbrev Inv-loop : tie.InvT-loop
-Inv-loop z₀ zt vl size segment zn first stride n w each s high r₀ z r =
-    (r ≤ 4) × ((length z ≡ length z₀) × (z ≡ lutiFile 4 size vl 4 segment zn first stride zt z₀ r))
+-- of 16 bits there is one segment
+one : (c : tie.Then1) → let a = c .before .before .before .args in a .i1 % (a .size / 16) ≡ 0
+one c = rw (c .if1 .taken) (omega arith)
 
-abbrev μ-loop : tie.MeasureT-loop
-μ-loop z₀ zt vl size segment zn first stride n w each s high r₀ z r = 4 - r
+-- and of 32 bits two
+larger : (c : tie.Else1) → c .before .before .before .args .size ≡ 32
+larger c = ⊎-elim (λ e. absurd (c .if1 .left e)) (λ e. e) (c .before .before .before .pre .0 .result)
 
--- what the arithmetic asks of a turn
-facts : (c : tie.In-loop Inv-loop μ-loop) → let a = c .before .before .before .before .before .before .before .before .args in Turn (a .vl) 4 (a .segment) (a .first) (a .stride) (c .before .before .before .before .before .index-bytes .result) (c .before .loop .r)
-facts c = turn-at (c .before .before .before .before .before .before .before .before .pre) (c .before .loop .r) (c .loop-test .taken) (c .before .before .before .before .before .index-bytes .ensures)
+two : (c : tie.Else1) → let a = c .before .before .before .args in a .i1 % (a .size / 16) ≡ a .i1
+two c = rw (larger c) (omega arith)
 
-copy-length : (c : tie.After-slot-of Inv-loop μ-loop) → length (c .slot-of .result) ≡ 256
-copy-length c = let a = c .before .before .before .before .before in ap length (c .slot-of .ensures) ∙ slot-length 256 256 (a .args .zn) (a .args .z .now) (omega arith)
+four-requires : tie.Need-four-requires
+four-requires c κs = rw (one (c .before), c .before .if1 .taken) at (c .before .before .before .before .pre .0)
 
-index-bytes-requires : tie.Need-index-bytes-requires Inv-loop μ-loop
-index-bytes-requires c κs = c .before .before .pre .result
+same-length : tie.Need-same-length
+same-length c = search needs
 
-slot-of-requires : tie.Need-slot-of-requires Inv-loop μ-loop
-slot-of-requires c κs = omega arith
+returns : tie.Need-returns
+returns c = rw (one (c .before .before .before .before), c .before .before .before .before .if1 .taken) (c .before .before .four .ensures)
 
-raised-by-requires : tie.Need-raised-by-requires Inv-loop μ-loop
-raised-by-requires c κs = let p = c .before .before .before .before .before .pre in record { entries = p .entries; width = element-of (p .result) }
+four-requires-2 : tie.Need-four-requires-2
+four-requires-2 c κs = rw (two (c .before), larger (c .before)) at (c .before .before .before .before .pre .0)
 
-loop-holds : tie.Need-loop-holds Inv-loop μ-loop
-unfolding lutiFile
-loop-holds c = (omega arith, (refl, refl))
+same-length-2 : tie.Need-same-length-2
+same-length-2 c = search needs
 
-mul-from : tie.Need-mul-from Inv-loop μ-loop
-mul-from c = let t = facts c in omega arith
-
-add-from : tie.Need-add-from Inv-loop μ-loop
-add-from c = let t = facts c in omega arith
-
-mul-from-2 : tie.Need-mul-from-2 Inv-loop μ-loop
-mul-from-2 c = let t = facts c in omega arith
-
-add-to : tie.Need-add-to Inv-loop μ-loop
-add-to c = let t = facts c in omega arith
-
-mul-d : tie.Need-mul-d Inv-loop μ-loop
-mul-d c = let t = facts c in omega arith
-
-add-d : tie.Need-add-d Inv-loop μ-loop
-add-d c = let t = facts c in omega arith
-
-mul-d-2 : tie.Need-mul-d-2 Inv-loop μ-loop
-mul-d-2 c = let t = facts c in omega arith
-
-add-e : tie.Need-add-e Inv-loop μ-loop
-add-e c = let t = facts c in omega arith
-
-sub-look-by : tie.Need-sub-look-by Inv-loop μ-loop
-sub-look-by c = let t = facts c in omega arith
-
-part-look-by-start : tie.Need-part-look-by-start Inv-loop μ-loop
-part-look-by-start c = let t = facts (c .before) in let n = copy-length (c .before .before .before .before) in omega arith
-
-part-look-by-end : tie.Need-part-look-by-end Inv-loop μ-loop
-part-look-by-end c = let t = facts (c .before) in let n = copy-length (c .before .before .before .before) in omega arith
-
-sub-look-by-2 : tie.Need-sub-look-by-2 Inv-loop μ-loop
-sub-look-by-2 c = let t = facts (c .before .before .before) in omega arith
-
-part-look-by-start-2 : tie.Need-part-look-by-start-2 Inv-loop μ-loop
-part-look-by-start-2 c = let t = facts (c .before .before .before) in omega arith
-
-part-look-by-end-2 : tie.Need-part-look-by-end-2 Inv-loop μ-loop
-part-look-by-end-2 c = let t = facts (c .before .before .before) in omega arith
-
-look-by-requires : tie.Need-look-by-requires Inv-loop μ-loop
-look-by-requires c κs =
-    let a = c .before .before .before .before .before .before .before .before .before .before .before .before in
-    let l = c .before .before .before .before .before .loop in
-    let b = c .before .before .before .before .before .before .before .before .before .index-bytes in
-    let t = facts (c .before .before .before .before) in
-    let n = copy-length (c .before .before .before .before .before .before .before) in
-    record {
-      entries = a .pre .entries;
-      raised = c .before .before .before .before .before .before .raised-by .ensures;
-      width = element-of (a .pre .result);
-      power = refl;
-      whole =
-          part-length 256 (a .args .vl / 8) (a .args .first + a .args .stride * l .r) (l .z) (omega arith)
-          ∙ sym (room-is (a .pre) (b .ensures))
-          ∙ ap (λ (x : ℕ). x * (2 * (a .args .size / 8))) (simp (length-take, length-drop) (omega arith));
-    }
-
-add-r : tie.Need-add-r Inv-loop μ-loop
-add-r c = omega arith
-
-loop-less : tie.Need-loop-less Inv-loop μ-loop
-loop-less c = omega arith
-
-loop-again : tie.Need-loop-again Inv-loop μ-loop
-loop-again c =
-    let a = c .before .before .before .before .before .before .before .before .before .before .before .before .before .before .before in
-    let l = c .before .before .before .before .before .before .before .before .loop in
-    let b = c .before .before .before .before .before .before .before .before .before .before .before .before .index-bytes in
-    let s = c .before .before .before .before .before .before .before .before .before .before .slot-of in
-    let t = facts (c .before .before .before .before .before .before .before) in (
-      omega arith,
-      (
-        c .before .z .given .1 ∙ l .inv .1 .0,
-        turned (a .pre) (b .ensures) (l .r) (a .args .zt .now) (a .args .z .now) (l .z) (s .result) _ (omega arith) (omega arith) (omega arith) (s .ensures) (l .inv .1 .1) (c .before .before .look-by .ensures),
-      ),
-    )
-
-same-length : tie.Need-same-length Inv-loop μ-loop
-same-length c = c .before .loop .inv .1 .0
-
-returns : tie.Need-returns Inv-loop μ-loop
-returns c =
-    let a = c .before .before .before .before .before .before .before .before .args in
-    let l = c .before .loop in
-    let q : l .r ≡ 4 = omega arith in l .inv .1 .1 ∙ ap (lutiFile 4 (a .size) (a .vl) 4 (a .segment) (a .zn) (a .first) (a .stride) (a .zt .now) (a .z .now)) q
+returns-2 : tie.Need-returns-2
+returns-2 c = rw (two (c .before .before .before .before), larger (c .before .before .before .before)) (c .before .before .four2 .ensures)
 
 pub luti4-file-spec : {M : Type 1} → statement M
 luti4-file-spec =
-    tie.close
-    (tie.spec
-    Inv-loop
-    μ-loop
-    index-bytes-requires
-    slot-of-requires
-    raised-by-requires
-    loop-holds
-    mul-from
-    add-from
-    mul-from-2
-    add-to
-    mul-d
-    add-d
-    mul-d-2
-    add-e
-    sub-look-by
-    part-look-by-start
-    part-look-by-end
-    sub-look-by-2
-    part-look-by-start-2
-    part-look-by-end-2
-    look-by-requires
-    add-r
-    loop-less
-    loop-again
-    same-length
-    returns)
+    tie.close (tie.spec four-requires same-length returns four-requires-2 same-length-2 returns-2)
