@@ -58,22 +58,12 @@ fn place(bits: u32, vl: u32) -> u32
     (m & (m - 1)) >> 1
 }
 
-// Sixty-four bits, of which every 2^z-th is 1.
+// Sixty-four bits, of which every 2^z-th is 1: a byte of them eight times.
 fn places(z: u32) -> u64
     requires { ⌜ z < 4 ⌝ }
     ensures { λ r. ⌜ r ≡ gather (λ b. eqb (b % 2 ^ z) 0) 0 64 ⌝ }
 {
-    if z == 0 {
-        return 0xffffffffffffffff;
-    }
-    if z == 1 {
-        return 0x5555555555555555;
-    }
-    if z == 2 {
-        0x1111111111111111
-    } else {
-        0x0101010101010101
-    }
+    (element::pattern_of(z) as u64) * 0x0101010101010101
 }
 
 // Sixty-four bits, those below d: all, from 64 on.

@@ -47,16 +47,16 @@ fn put_at(p: &mut [u8], c: Counter, vl: u32, log: u32, portion: u32, pd: u32)
     requires { ⌜ Portion (length (now p)) vl log portion pd ⌝ }
     ensures { λ _. ⌜ now (p .exit) ≡ setSlot 32 (vl / 64) pd (portionOf vl (sizeAt log) portion (c .0)) (now (p .entry)) ⌝ }
 {
+    if vl == 2048 {
+        put(p, c, 2048, log, portion, pd);
+        return;
+    }
     if vl == 128 {
         put(p, c, 128, log, portion, pd);
         return;
     }
     if vl == 512 {
         put(p, c, 512, log, portion, pd);
-        return;
-    }
-    if vl == 2048 {
-        put(p, c, 2048, log, portion, pd);
         return;
     }
     put(p, c, vl, log, portion, pd);

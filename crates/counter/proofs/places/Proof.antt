@@ -1,26 +1,34 @@
--- `places` meets its contract: each number computes.
-use native.Mathlib.Omega.{arith}
-use mathlib.Core.Path.{_≡_}
+-- `places` meets its contract: a byte's pattern eight times is the pattern of sixty-four bits, by one test over the four sizes.
+use mathlib.Core.Path.{ap, _∙_}
+use mathlib.Core.Bool.{Bool}
+use Prim.Native.Nat.{ℕ, _*_, _%_, _^_}
+use lib.Dec.{eqb, eqb→eq}
 use Rattle.element.specs.Contents.{gather}
+use Rattle.element.specs.Units.{patternOf}
+use Rattle.element.proofs.Below.{below}
+use borrow.Author.Needs.{needs}
 use Rattle.counter.proofs.places.Statement.{statement}
 use Rattle.counter.proofs.places.Tie as tie
 
+spread : ℕ → Bool
+unfolding gather
+spread z = eqb (patternOf z * 0x0101010101010101) (gather (λ b. eqb (b % 2 ^ z) 0) 0 64)
+
+pattern-of-requires : tie.Need-pattern-of-requires
+pattern-of-requires c κs = search needs
+
+cast-result : tie.Need-cast-result
+cast-result c = search needs
+
+mul-result : tie.Need-mul-result
+mul-result c = search needs
+
 returns : tie.Need-returns
-unfolding gather
-returns c = rw (c .if1 .taken)
-
-returns-2 : tie.Need-returns-2
-unfolding gather
-returns-2 c = rw (c .if2 .taken)
-
-returns-3 : tie.Need-returns-3
-unfolding gather
-returns-3 c = rw (c .if3 .taken)
-
-returns-4 : tie.Need-returns-4
-unfolding gather
-returns-4 c =
-    let e : c .before .before .before .args .z ≡ 3 = omega (arith, c .if3 .left, c .before .if2 .left, c .before .before .if1 .left) in rw e
+unfolding spread gather
+returns c =
+    let a = c .before in
+    let z = a .args .z in
+    ap (λ (n : ℕ). n * 0x0101010101010101) (c .pattern-of .ensures) ∙ eqb→eq (patternOf z * 0x0101010101010101) (gather (λ b. eqb (b % 2 ^ z) 0) 0 64) (below spread 4 tt z (a .pre))
 
 pub places-spec : {M : Type 1} → statement M
-places-spec = tie.close (tie.spec returns returns-2 returns-3 returns-4)
+places-spec = tie.close (tie.spec pattern-of-requires cast-result mul-result returns)

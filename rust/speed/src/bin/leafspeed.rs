@@ -19,8 +19,7 @@
 //!
 //! With `cleared` every file is zeros at the start, as for a long session. Then
 //! no element of a predicate is true, so that PEXT and DUP only clear, which
-//! the baseline does at once too: their bar is 1.05 there, and by the single
-//! step there is none.
+//! the baseline does at once too: their bar is 1.05 there.
 
 use std::hint::black_box;
 use std::process::ExitCode;
@@ -172,16 +171,16 @@ fn cases(files: Files) -> Vec<Case> {
     let letter = |size: u32| ["B", "H", "S", "D"][size.trailing_zeros() as usize - 3];
     let (mut cases, mut steps) = (Vec::new(), Vec::new());
     for form in Form::ALL {
-        let (bars, step_bars) = match (form, files) {
-            (Form::Uqrshrnb, _) => ([1.05, 0.7], [1.05, 0.7]),
-            (Form::Luti4c | Form::Luti4s, _) | (_, Files::Random) => ([1.05, 0.4], [1.05, 0.4]),
-            (_, Files::Cleared) => ([1.05, 1.05], none),
+        let bars = match (form, files) {
+            (Form::Uqrshrnb, _) => [1.05, 0.7],
+            (Form::Luti4c | Form::Luti4s, _) | (_, Files::Random) => [1.05, 0.4],
+            (_, Files::Cleared) => [1.05, 1.05],
         };
         for &size in sizes(form) {
             let name = format!("{} {}", form.name(), letter(size));
             let words = of_form(form, size);
             let stepped = format!("step: {name}");
-            steps.push(step(&stepped, words.clone(), step_bars, 0, true));
+            steps.push(step(&stepped, words.clone(), bars, 0, true));
             cases.push(stretch(&name, words, bars));
         }
     }
