@@ -28,6 +28,7 @@ module _ (z zt vl size i1 zn first stride : ℕ) (ready : luti4Ready z zt vl siz
         record {
           slots = eqb-true z 8192 (g .0);
           entries = eqb-true zt 64 (g .1);
+          allowed = f .1;
           lengths = lengths-of vl (f .1);
           kind = inr refl;
           result = s;

@@ -2,8 +2,10 @@
 use mathlib.Core.Path.{_≡_}
 use mathlib.Core.Logic.{_⊎_}
 use mathlib.Core.List.{List}
-use Prim.Native.Nat.{ℕ, suc, _*_, _+_, _%_, _^_, _≤_, _<_}
+use mathlib.Core.Bool.{true}
+use Prim.Native.Nat.{ℕ, suc, _*_, _+_, _/_, _%_, _^_, _≤_, _<_}
 use lib.ListN.{length, getD}
+use Rattle.setting.specs.Allowed.{lengthAllowed}
 use Rattle.element.specs.Contents.{elem}
 use Rattle.part.specs.Parts.{Lengths}
 
@@ -44,10 +46,15 @@ pub record PairsReady (source room m w : ℕ) (table high : List ℕ) : Type 0 w
   pub power : m ≡ 256 ^ w
   pub whole : room ≡ source * (2 * w)
 
+-- fewer bytes of indexes than 64 bytes of elements have, or those of some such
+abbrev pub Chunked : ℕ → ℕ → Type 0
+Chunked source w = (source < 32 / w) ⊎ (source % (32 / w) ≡ 0)
+
 -- d destinations of indexes of k bits; the segment lies in Zn
 pub record LutiReady (file table vl k s d segment zn first stride : ℕ) : Type 0 where
   pub slots : file ≡ 8192
   pub entries : table ≡ 64
+  pub allowed : lengthAllowed vl ≡ true
   pub lengths : Lengths vl
   pub kind : Kind k
   pub result : Result s

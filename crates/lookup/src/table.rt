@@ -5,7 +5,7 @@ ghost use lib.ListN.{length};
 ghost use Rattle.element.specs.Contents.{elem, field, fill};
 ghost use Rattle.element.specs.Slots.{slot};
 ghost use Rattle.lookup.specs.Lookup.{lutiFile};
-ghost use Rattle.lookup.specs.Needed.{EntryReady, Raised, RaisedReady, TableReady, PairsReady, Result, LutiReady};
+ghost use Rattle.lookup.specs.Needed.{EntryReady, Raised, RaisedReady, TableReady, PairsReady, Chunked, Result, LutiReady};
 
 // The entry of ZT0 at a place.
 fn entry(zt: &[u8], i: usize) -> u64
@@ -47,12 +47,16 @@ fn pairs(s: &[u8], zt: &[u8], high: &[u64; 16], m: u64, w: usize, o: &mut [u8])
     }
 }
 
-// The same by 64 bytes of the destination, whose number is a literal, so that LLVM unrolls the loop; then the rest.
+// The same by 64 bytes of the destination, whose number is a literal, so that LLVM unrolls the loop; fewer at once.
 fn look(s: &[u8], zt: &[u8], high: &[u64; 16], m: u64, w: usize, o: &mut [u8])
-    requires { ⌜ PairsReady (length (now s)) (length (now o)) m w (now zt) (now high) ⌝ }
+    requires { ⌜ PairsReady (length (now s)) (length (now o)) m w (now zt) (now high) × Chunked (length (now s)) w ⌝ }
     ensures { λ _. ⌜ now (o .exit) ≡ fill (λ e. elem 4 (field 4 e (now (s .entry))) (now (zt .entry))) w (length (now (s .entry)) * 2) ⌝ }
 {
     let per = 32 / w;
+    if s.len() < per {
+        pairs(s, zt, high, m, w, o);
+        return;
+    }
     let n = s.len() / per;
     let mut q: usize = 0;
     while q < n {
@@ -63,9 +67,6 @@ fn look(s: &[u8], zt: &[u8], high: &[u64; 16], m: u64, w: usize, o: &mut [u8])
         pairs(&s[i..j], zt, high, m, w, &mut o[a..e]);
         q += 1;
     }
-    let i = n * per;
-    let a = n * 64;
-    pairs(&s[i..], zt, high, m, w, &mut o[a..]);
 }
 
 // Each width with its power as a literal: the compiler makes a loop for it.
@@ -80,7 +81,7 @@ fn raised_by(zt: &[u8], w: usize) -> [u64; 16]
 }
 
 fn look_by(s: &[u8], zt: &[u8], high: &[u64; 16], w: usize, o: &mut [u8])
-    requires { ⌜ PairsReady (length (now s)) (length (now o)) (256 ^ w) w (now zt) (now high) ⌝ }
+    requires { ⌜ PairsReady (length (now s)) (length (now o)) (256 ^ w) w (now zt) (now high) × Chunked (length (now s)) w ⌝ }
     ensures { λ _. ⌜ now (o .exit) ≡ fill (λ e. elem 4 (field 4 e (now (s .entry))) (now (zt .entry))) w (length (now (s .entry)) * 2) ⌝ }
 {
     if w == 2 {

@@ -1,12 +1,14 @@
 -- `four` meets its contract: after r turns the file is the definition's, all of the copy of Zn. The measure is what is left of the four.
-use mathlib.Core.Path.{_≡_, refl, sym, ap, _∙_}
+use mathlib.Core.Path.{_≡_, refl, sym, subst, ap, _∙_}
 use Prim.Native.Nat.{ℕ, _+_, _-_, _*_, _/_, _≤_}
 use native.Mathlib.Omega.{arith}
 use lib.ListN.{length, length-take, length-drop}
 use Rattle.element.proofs.Slots.{slot-length, part-length}
 use Rattle.lookup.specs.Lookup.{lutiFile}
+use Rattle.lookup.specs.Needed.{Chunked}
 use Rattle.lookup.proofs.Places.{element-of, Turn, turn-at}
 use Rattle.lookup.proofs.Files.{room-is, turned}
+use Rattle.lookup.proofs.Chunks.{chunked}
 use Rattle.lookup.proofs.table.four.Statement.{statement}
 use Rattle.lookup.proofs.table.four.Tie as tie
 
@@ -85,17 +87,19 @@ look-by-requires c κs =
     let l = c .before .before .before .before .before .loop in
     let b = c .before .before .before .before .before .before .before .before .before .index-bytes in
     let t = facts (c .before .before .before .before) in
-    let n = copy-length (c .before .before .before .before .before .before .before) in
-    record {
-      entries = a .pre .entries;
-      raised = c .before .before .before .before .before .before .raised-by .ensures;
-      width = element-of (a .pre .result);
-      power = refl;
-      whole =
-          part-length 256 (a .args .vl / 8) (a .args .first + a .args .stride * l .r) (l .z) (omega arith)
-          ∙ sym (room-is (a .pre) (b .ensures))
-          ∙ ap (λ (x : ℕ). x * (2 * (a .args .size / 8))) (simp (length-take, length-drop) (omega arith));
-    }
+    let n = copy-length (c .before .before .before .before .before .before .before) in (
+      record {
+        entries = a .pre .entries;
+        raised = c .before .before .before .before .before .before .raised-by .ensures;
+        width = element-of (a .pre .result);
+        power = refl;
+        whole =
+            part-length 256 (a .args .vl / 8) (a .args .first + a .args .stride * l .r) (l .z) (omega arith)
+            ∙ sym (room-is (a .pre) (b .ensures))
+            ∙ ap (λ (x : ℕ). x * (2 * (a .args .size / 8))) (simp (length-take, length-drop) (omega arith));
+      },
+      subst (λ (x : ℕ). Chunked x (a .args .size / 8)) (simp (length-take, length-drop) (omega arith)) (chunked (a .args .vl) (a .args .size) (a .pre .allowed) (a .pre .result)),
+    )
 
 add-r : tie.Need-add-r Inv-loop μ-loop
 add-r c = omega arith

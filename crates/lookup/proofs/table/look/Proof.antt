@@ -1,7 +1,8 @@
--- `look` meets its contract: after q turns o begins with the elements of the first q chunks, and the rest comes last. The measure is what is left of the chunks.
+-- `look` meets its contract: less than a chunk by `pairs`; else after q turns o begins with the elements of the first q chunks. The measure is what is left of the chunks.
 use mathlib.Core.Path.{_≡_, refl, sym, ap, _∙_}
+use mathlib.Core.Logic.{⊎-elim}
 use mathlib.Core.List.{_++_}
-use Prim.Native.Nat.{ℕ, _+_, _-_, _*_, _/_, _≤_}
+use Prim.Native.Nat.{ℕ, _+_, _-_, _*_, _/_, _%_, _≤_}
 use native.Mathlib.Nat.{zero-mul, mul-assoc}
 use native.Mathlib.Omega.{arith}
 use borrow.Author.Needs.{needs}
@@ -9,7 +10,7 @@ use lib.ListN.{length, drop}
 use Rattle.element.specs.Contents.{elem, field, fill}
 use Rattle.element.proofs.Slots.{reach}
 use Rattle.lookup.proofs.Lookups.{sizes, taken-length, taken-looked}
-use Rattle.lookup.proofs.Chunks.{Chunks, chunks-of, chunk-elements, chunk-within, chunk-again, rest-done}
+use Rattle.lookup.proofs.Chunks.{Chunks, chunks-of, chunk-bytes, whole-chunks, chunk-elements, chunk-within, chunk-again, chunks-done}
 use Rattle.lookup.proofs.table.look.Statement.{statement}
 use Rattle.lookup.proofs.table.look.Tie as tie
 
@@ -21,17 +22,26 @@ abbrev μ-loop : tie.MeasureT-loop
 μ-loop s zt high m w o₀ per n q₀ o q = n - q
 
 -- the chunks, at the loop's test
-chunks : (c : tie.At-loop Inv-loop μ-loop) → let a = c .before .before .before .before .args in Chunks (length (a .s .now)) (a .w) (length (a .s .now) / (32 / a .w))
-chunks c = chunks-of (length (c .before .before .before .before .args .s .now)) (c .before .before .before .before .pre .width)
+chunks : (c : tie.At-loop Inv-loop μ-loop) → let a = c .before .before .before .before .before .args in Chunks (length (a .s .now)) (a .w) (length (a .s .now) / (32 / a .w))
+chunks c = chunks-of (length (c .before .before .before .before .before .args .s .now)) (c .before .before .before .before .before .pre .0 .width)
 
-within : (c : tie.In-loop Inv-loop μ-loop) → let a = c .before .before .before .before .before .args in c .before .loop .q * (32 / a .w) + 32 / a .w ≤ length (a .s .now)
+within : (c : tie.In-loop Inv-loop μ-loop) → let a = c .before .before .before .before .before .before .args in c .before .loop .q * (32 / a .w) + 32 / a .w ≤ length (a .s .now)
 within c = chunk-within _ (c .before .loop .q) (chunks (c .before)) (c .loop-test .taken)
 
 div-per : tie.Need-div-per Inv-loop μ-loop
-div-per c = let h = sizes (c .before .before .before .pre .width) in omega arith
+div-per c = let h = sizes (c .before .before .before .pre .0 .width) in omega arith
+
+pairs-requires : tie.Need-pairs-requires Inv-loop μ-loop
+pairs-requires c κs = c .before .before .before .before .before .pre .0
+
+same-length : tie.Need-same-length Inv-loop μ-loop
+same-length c = search needs
+
+returns : tie.Need-returns Inv-loop μ-loop
+returns c = c .before .before .pairs .ensures
 
 div-n : tie.Need-div-n Inv-loop μ-loop
-div-n c = let h = sizes (c .before .before .before .pre .width) in omega arith
+div-n c = let h = sizes (c .before .before .before .before .pre .0 .width) in omega arith
 
 loop-holds : tie.Need-loop-holds Inv-loop μ-loop
 unfolding fill
@@ -67,17 +77,17 @@ part-pairs-start-2 c = let k = chunks (c .before .before) in omega arith
 part-pairs-end-2 : tie.Need-part-pairs-end-2 Inv-loop μ-loop
 part-pairs-end-2 c = let k = chunks (c .before .before) in omega arith
 
-pairs-requires : tie.Need-pairs-requires Inv-loop μ-loop
-pairs-requires c κs =
-    let a = c .before .before .before .before .before .before .before in
+pairs-requires-2 : tie.Need-pairs-requires-2 Inv-loop μ-loop
+pairs-requires-2 c κs =
+    let a = c .before .before .before .before .before .before .before .before in
     let l = c .before .before .before .loop in
     let k = chunks (c .before .before .before) in
     record {
-      entries = a .pre .entries;
-      raised = a .pre .raised;
-      width = a .pre .width;
-      power = a .pre .power;
-      whole = rw (taken-length (l .q * (32 / a .args .w)) (a .args .s .now) (reach (l .q * (32 / a .args .w)) (32 / a .args .w)) (within (c .before .before)), taken-length (l .q * 64) (l .o) (reach (l .q * 64) 64) (omega arith)) (sym (sizes (a .pre .width) .chunk));
+      entries = a .pre .0 .entries;
+      raised = a .pre .0 .raised;
+      width = a .pre .0 .width;
+      power = a .pre .0 .power;
+      whole = rw (taken-length (l .q * (32 / a .args .w)) (a .args .s .now) (reach (l .q * (32 / a .args .w)) (32 / a .args .w)) (within (c .before .before)), taken-length (l .q * 64) (l .o) (reach (l .q * 64) 64) (omega arith)) (sym (sizes (a .pre .0 .width) .chunk));
     }
 
 add-q : tie.Need-add-q Inv-loop μ-loop
@@ -88,76 +98,35 @@ loop-less c = search needs
 
 loop-again : tie.Need-loop-again Inv-loop μ-loop
 loop-again c =
-    let a = c .before .before .before .before .before .before .before .before .before .before in
+    let a = c .before .before .before .before .before .before .before .before .before .before .before in
     let l = c .before .before .before .before .before .before .loop in
     let p = 32 / a .args .w in (
       omega arith,
       (
-        c .before .o .given .1 ∙ l .inv .1 .0,
-        chunk-again (λ (e : ℕ). elem 4 (field 4 e (a .args .s .now)) (a .args .zt .now)) (a .args .w) (p * 2) 64 (l .q) (a .args .o .now) (l .o) _ (chunk-elements (a .pre .width)) (l .inv .1 .1)
-            (c .before .before .pairs .ensures ∙ taken-looked (a .args .w) (l .q * p) (a .args .s .now) (a .args .zt .now) (reach (l .q * p) p) (mul-assoc (l .q) p 2) (within (c .before .before .before .before .before))),
+        c .before .o2 .given .1 ∙ l .inv .1 .0,
+        chunk-again (λ (e : ℕ). elem 4 (field 4 e (a .args .s .now)) (a .args .zt .now)) (a .args .w) (p * 2) 64 (l .q) (a .args .o .now) (l .o) _ (chunk-elements (a .pre .0 .width)) (l .inv .1 .1)
+            (c .before .before .pairs2 .ensures ∙ taken-looked (a .args .w) (l .q * p) (a .args .s .now) (a .args .zt .now) (reach (l .q * p) p) (mul-assoc (l .q) p 2) (within (c .before .before .before .before .before))),
       ),
     )
 
-mul-i-2 : tie.Need-mul-i-2 Inv-loop μ-loop
-mul-i-2 c = let k = chunks (c .before) in omega arith
+same-length-2 : tie.Need-same-length-2 Inv-loop μ-loop
+same-length-2 c = c .before .loop .inv .1 .0
 
-mul-a-2 : tie.Need-mul-a-2 Inv-loop μ-loop
-mul-a-2 c = let k = chunks (c .before) in omega arith
-
-sub-pairs-3 : tie.Need-sub-pairs-3 Inv-loop μ-loop
-sub-pairs-3 c = let k = chunks (c .before) in omega arith
-
-part-pairs-start-3 : tie.Need-part-pairs-start-3 Inv-loop μ-loop
-part-pairs-start-3 c = let k = chunks (c .before) in omega arith
-
-part-pairs-end-3 : tie.Need-part-pairs-end-3 Inv-loop μ-loop
-part-pairs-end-3 c = let k = chunks (c .before) in omega arith
-
-sub-pairs-4 : tie.Need-sub-pairs-4 Inv-loop μ-loop
-sub-pairs-4 c = let k = chunks (c .before .before) in omega arith
-
-part-pairs-start-4 : tie.Need-part-pairs-start-4 Inv-loop μ-loop
-part-pairs-start-4 c = let k = chunks (c .before .before) in omega arith
-
-part-pairs-end-4 : tie.Need-part-pairs-end-4 Inv-loop μ-loop
-part-pairs-end-4 c = let k = chunks (c .before .before) in omega arith
-
-pairs-requires-2 : tie.Need-pairs-requires-2 Inv-loop μ-loop
-pairs-requires-2 c κs =
-    let a = c .before .before .before .before .before .before .before in
-    let l = c .before .before .before .loop in
-    let k = chunks (c .before .before .before) in
-    let n = length (a .args .s .now) / (32 / a .args .w) in
-    let e : length (l .o) ≡ length (a .args .s .now) * (2 * a .args .w) = l .inv .1 .0 ∙ a .pre .whole in
-    let i : n * (32 / a .args .w) + (length (a .args .s .now) - n * (32 / a .args .w)) ≤ length (a .args .s .now) = omega arith in
-    let j : n * 64 + (length (l .o) - n * 64) ≤ length (l .o) = omega arith in
-    record {
-      entries = a .pre .entries;
-      raised = a .pre .raised;
-      width = a .pre .width;
-      power = a .pre .power;
-      whole = rw (taken-length (n * (32 / a .args .w)) (a .args .s .now) refl i, taken-length (n * 64) (l .o) refl j, e) (k .rest);
-    }
-
-same-length : tie.Need-same-length Inv-loop μ-loop
-same-length c = c .before .o2 .given .1 ∙ c .before .before .before .before .before .before .loop .inv .1 .0
-
-returns : tie.Need-returns Inv-loop μ-loop
-returns c =
-    let a = c .before .before .before .before .before .before .before .before .before .before in
-    let l = c .before .before .before .before .before .before .loop in
-    let k = chunks (c .before .before .before .before .before .before) in
+returns-2 : tie.Need-returns-2 Inv-loop μ-loop
+returns-2 c =
+    let l = c .before .loop in
+    let b = c .before .before in
+    let a = b .before .before .before .before in
     let p = 32 / a .args .w in
-    let n = length (a .args .s .now) / p in
+    let s = length (a .args .s .now) in
+    let n = s / p in
     let f : ℕ → ℕ = λ (e : ℕ). elem 4 (field 4 e (a .args .s .now)) (a .args .zt .now) in
+    let m : s % p ≡ 0 = ⊎-elim (λ h. absurd (omega (arith, h, b .if1 .left))) (λ e. e) (a .pre .1) in
+    let d : n * p ≡ s = whole-chunks s p m in
     let q : l .q ≡ n = omega arith in
-    let i : l .o ≡ fill f (a .args .w) (n * (p * 2)) ++ drop (n * 64) (a .args .o .now) = l .inv .1 .1 ∙ rw q in
-    let e : n * (p * 2) * a .args .w ≡ n * 64 = mul-assoc n (p * 2) (a .args .w) ∙ ap (λ (x : ℕ). n * x) (chunk-elements (a .pre .width)) in
-    let t : n * (p * 2) + (length (a .args .s .now) - n * p) * 2 ≡ length (a .args .s .now) * 2 = omega (arith, mul-assoc n p 2) in
-    rest-done f (a .args .w) (n * (p * 2)) ((length (a .args .s .now) - n * p) * 2) (n * 64) (a .args .o .now) (l .o) _ e i
-    (c .before .before .pairs2 .ensures ∙ taken-looked (a .args .w) (n * p) (a .args .s .now) (a .args .zt .now) refl (mul-assoc n p 2) (omega arith))
-    ∙ ap (fill f (a .args .w)) t
+    let t : n * (p * 2) ≡ s * 2 = sym (mul-assoc n p 2) ∙ ap (λ (x : ℕ). x * 2) d in
+    let r : n * 64 ≡ s * (2 * a .args .w) = sym (chunk-bytes n (a .pre .0 .width)) ∙ ap (λ (x : ℕ). x * (2 * a .args .w)) d in
+    chunks-done f (a .args .w) (n * (p * 2)) (n * 64) (a .args .o .now) (l .o) (omega (arith, a .pre .0 .whole)) (l .inv .1 .1 ∙ rw q) ∙ ap (fill f (a .args .w)) t
 
 pub look-spec : {M : Type 1} → statement M
 look-spec =
@@ -166,6 +135,9 @@ look-spec =
     Inv-loop
     μ-loop
     div-per
+    pairs-requires
+    same-length
+    returns
     div-n
     loop-holds
     mul-i
@@ -178,18 +150,9 @@ look-spec =
     sub-pairs-2
     part-pairs-start-2
     part-pairs-end-2
-    pairs-requires
+    pairs-requires-2
     add-q
     loop-less
     loop-again
-    mul-i-2
-    mul-a-2
-    sub-pairs-3
-    part-pairs-start-3
-    part-pairs-end-3
-    sub-pairs-4
-    part-pairs-start-4
-    part-pairs-end-4
-    pairs-requires-2
-    same-length
-    returns)
+    same-length-2
+    returns-2)

@@ -15,7 +15,7 @@ returns : tie.Need-returns
 returns c = rw (c .before .before .before .before .if1 .taken) (c .before .before .look .ensures)
 
 four : (c : tie.Else1) → c .before .before .before .before .args .w ≡ 4
-four c = second (c .before .before .before .before .pre .width) (c .if1 .left)
+four c = second (c .before .before .before .before .pre .0 .width) (c .if1 .left)
 
 look-requires-2 : tie.Need-look-requires-2
 look-requires-2 c κs = rw (four (c .before)) at (c .before .before .before .before .before .pre)
