@@ -1,8 +1,8 @@
 -- An accepted call meets what the private functions ask: each test of the Bool definition, read as a fact.
 use mathlib.Core.Path.{_≡_, refl, sym, _∙_}
 use mathlib.Core.Bool.{Bool, true, false, _&&_, _||_}
-use mathlib.Core.Logic.{⊎-elim, ⊎-map, _⊎_, inr}
-use Prim.Native.Nat.{ℕ, _+_, _*_, _/_, _%_, _≤_, _<_}
+use mathlib.Core.Logic.{⊎-map, _⊎_, inr}
+use Prim.Native.Nat.{ℕ, _+_, _*_, _≤_, _<_}
 use native.Mathlib.Decide.{decLt}
 use native.Mathlib.Omega.{arith}
 use lib.Dec.{eqb, ltb, lit<}
@@ -10,11 +10,13 @@ use borrow.Author.Tests.{eqb-true, ltb-true, lt-ltb, le-ltb, ne-eqb}
 use Rattle.setting.specs.Allowed.{lengthAllowed}
 use Rattle.element.proofs.Tests.{both-yes, one-yes}
 use Rattle.part.proofs.Lengths.{lengths-of}
+use Rattle.lookup.specs.Lookup.{segmentOf}
 use Rattle.lookup.specs.Calls.{fourFit, luti4Ready}
 use Rattle.lookup.specs.Needed.{LutiReady}
+use Rattle.lookup.proofs.Places.{size-bounds, segment-inside}
 
 module _ (z zt vl size i1 zn first stride : ℕ) (ready : luti4Ready z zt vl size i1 zn first stride ≡ true) where
-  pub luti4-accepted : LutiReady z zt vl 4 size 4 (i1 % (size / 16)) zn first stride × (i1 < 2)
+  pub luti4-accepted : LutiReady z zt vl 4 size 4 (segmentOf 4 size 4 i1) zn first stride × (i1 < 2)
   unfolding luti4Ready
   luti4-accepted =
       let a = both-yes _ (fourFit first stride) ready in
@@ -32,8 +34,7 @@ module _ (z zt vl size i1 zn first stride : ℕ) (ready : luti4Ready z zt vl siz
           lengths = lengths-of vl (f .1);
           kind = inr refl;
           result = s;
-          inside = ⊎-elim (λ (e : size ≡ 16). rw e (omega arith)) (λ (e : size ≡ 32). rw e (omega arith)) s;
-          some = lit< tt;
+          inside = segment-inside 4 size 4 i1 (lit< tt) (size-bounds s .0);
           from = ltb-true zn 32 (n .1);
           to = omega arith;
         },

@@ -15,7 +15,7 @@ use Rattle.element.proofs.Filling.{fill-length, same}
 use Rattle.element.proofs.Slots.{reach, slot-part, slot-length, put-back}
 use Rattle.lookup.specs.Lookup.{positionOf, lutiOf, lutiFile}
 use Rattle.lookup.specs.Needed.{LutiReady}
-use Rattle.lookup.proofs.Places.{each-is, elements-are, position-inside, turn-at}
+use Rattle.lookup.proofs.Places.{each-is, elements-are, place-inside, turn-at}
 use Rattle.lookup.proofs.Lookups.{kept-field, taken-looked}
 
 -- the n bytes from i on, as they are lent
@@ -68,7 +68,7 @@ module _ {file table vl s d segment zn first stride each : ℕ} (op : LutiReady 
       let k : slot 256 (vl / 8) zn z ≡ take (vl / 8) copy = sym (ap (take (vl / 8)) c ∙ low-bytes (vl / 8) zn z (omega arith) h) in
       taken-looked (s / 8) ((d * segment + r) * each) copy zt (reach ((d * segment + r) * each) each) i (omega arith)
       ∙ rw (elements, k)
-      (same _ _ (s / 8) (vl / s) (λ e b. let p = position-inside 4 s vl d segment r e (lit< tt) (op .inside) l b in ap (λ (x : ℕ). elem 4 x zt) (sym (kept-field (vl / 8) (positionOf s vl d segment r e) copy (omega arith)))))
+      (same _ _ (s / 8) (vl / s) (λ e b. let p = place-inside 4 s vl d segment r e (lit< tt) (op .inside) l b in ap (λ (x : ℕ). elem 4 x zt) (sym (kept-field (vl / 8) (positionOf s vl d segment r e) copy (omega arith)))))
 
   -- a turn: destination r's part comes back as it was made of the copy
   pub turned : (r : ℕ) (zt z₀ z copy c : List ℕ)

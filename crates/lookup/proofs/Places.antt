@@ -2,11 +2,15 @@
 use mathlib.Core.Path.{_≡_, sym, ap, _∙_}
 use mathlib.Core.Logic.{⊎-elim, ⊎-map, _⊎_}
 use Prim.Native.Nat.{ℕ, suc, _+_, _*_, _/_, _%_, _≤_, _<_}
-use native.Mathlib.Nat.{mul-assoc, mul-comm, mul-suc, mul-le-mul-left, mul-le-mul-right, le-trans, suc-mul, div-mul-le-self, mul-div-le, le-div-iff-mul-le}
+use native.Mathlib.Nat.{one-mul, mul-pos, mod-lt, mul-assoc, mul-comm, mul-suc, mul-le-mul-left, mul-le-mul-right, le-trans, suc-mul, div-mul-le-self, mul-div-le, le-div-iff-mul-le}
 use native.Mathlib.Omega.{arith}
 use lib.Dec.{lit<}
+use Rattle.lookup.specs.Lookup.{segmentOf, positionOf}
 use Rattle.lookup.specs.Needed.{Element, Result, LutiReady}
 use Rattle.lookup.specs.Claims.{PositionInside, SevenNeverComes}
+
+pub size-bounds : {s : ℕ} → Result s → (16 ≤ s) × (s ≤ 32)
+size-bounds r = ⊎-elim (λ b. (omega arith, omega arith)) (λ b. (omega arith, omega arith)) r
 
 -- the indexes of the destinations up to r have at most VL bits
 up-to : (k s vl d segment r : ℕ) → d * suc segment * k ≤ s → r < d → suc (d * segment + r) * (vl / s) * k ≤ vl
@@ -19,15 +23,29 @@ up-to k s vl d segment r i l =
     in
     rw t (le-trans (mul-le-mul-right (vl / s) q) (mul-div-le vl s))
 
-pub position-inside : PositionInside
-position-inside k s vl d segment r e p i l h =
+-- so an index of a segment that fits is one of Zn's
+pub place-inside : (k s vl d segment r e : ℕ) → 0 < k → d * suc segment * k ≤ s → r < d → e < vl / s → positionOf s vl d segment r e < vl / k
+place-inside k s vl d segment r e p i l h =
     let q : suc (d * segment + r) * (vl / s) ≤ vl / k = le-div-iff-mul-le p .1 (up-to k s vl d segment r i l) in
     let m = suc-mul (d * segment + r) (vl / s) in omega arith
 
+-- and every segment that an index names fits: it is below s/(k·d)
+pub segment-inside : (k s d i : ℕ) → 0 < k * d → k * d ≤ s → d * suc (segmentOf k s d i) * k ≤ s
+segment-inside k s d i p h =
+    let n = s / (k * d) in
+    let l : suc (segmentOf k s d i) ≤ n = mod-lt i (le-div-iff-mul-le p .1 (rw (one-mul (k * d)) h)) in
+    let t : d * suc (segmentOf k s d i) * k ≡ suc (segmentOf k s d i) * (k * d) =
+    mul-comm (d * suc (segmentOf k s d i)) k ∙ sym (mul-assoc k d (suc (segmentOf k s d i))) ∙ mul-comm (k * d) (suc (segmentOf k s d i))
+    in
+    rw t (le-trans (mul-le-mul-right (k * d) l) (div-mul-le-self s (k * d)))
+
+pub position-inside : PositionInside
+position-inside k s vl d i r e p h l b =
+    let q : 0 < k * d = mul-pos p (omega arith) in
+    place-inside k s vl d (segmentOf k s d i) r e p (segment-inside k s d i q h) l b
+
 pub seven-never-comes : SevenNeverComes
-seven-never-comes s vl i1 r e h l b =
-    let i : 4 * suc (i1 % (s / 16)) * 4 ≤ s = ⊎-elim (λ (a : s ≡ 16). rw a (omega arith)) (λ (a : s ≡ 32). rw a (omega arith)) h in
-    position-inside 4 s vl 4 (i1 % (s / 16)) r e (lit< tt) i l b
+seven-never-comes s vl i1 r e h l b = position-inside 4 s vl 4 i1 r e (lit< tt) (size-bounds h .0) l b
 
 -- the bytes of indexes of a destination say its elements, two each
 pub each-is : {s : ℕ} (vl : ℕ) → vl % 128 ≡ 0 → Result s → vl / s * 4 / 8 * 2 ≡ vl / s
@@ -46,9 +64,6 @@ second h n = ⊎-elim (λ a. absurd (n a)) (λ b. b) h
 
 pub element-of : {s : ℕ} → Result s → Element (s / 8)
 element-of r = ⊎-map (λ b. rw b) (λ b. rw b) r
-
-pub size-bounds : {s : ℕ} → Result s → (16 ≤ s) × (s ≤ 32)
-size-bounds r = ⊎-elim (λ b. (omega arith, omega arith)) (λ b. (omega arith, omega arith)) r
 
 -- what the code's arithmetic asks at destination r, which has `each` bytes of indexes
 pub record Turn (vl d segment first stride each r : ℕ) : Type 0 where

@@ -1,12 +1,12 @@
 -- Document 01, "The machine" and "Layouts", ranges: which calls are accepted; a refused one answers false and leaves the file.
 use mathlib.Core.Bool.{Bool, _&&_, _||_}
 use mathlib.Core.List.{List}
-use Prim.Native.Nat.{ℕ, _+_, _*_, _/_, _%_}
+use Prim.Native.Nat.{ℕ, _+_, _*_}
 use lib.Dec.{eqb, ltb}
 use lib.ListN.{length}
 use Rattle.setting.specs.Allowed.{lengthAllowed}
 use Rattle.element.specs.Size.{pick}
-use Rattle.lookup.specs.Lookup.{lutiFile}
+use Rattle.lookup.specs.Lookup.{segmentOf, lutiFile}
 
 -- four destinations, consecutive or strided, that are all registers
 abbrev pub fourFit : ℕ → ℕ → Bool
@@ -18,4 +18,4 @@ luti4Ready z zt vl size i1 zn first stride =
 
 unfoldable pub luti4File : ℕ → ℕ → ℕ → ℕ → ℕ → ℕ → List ℕ → List ℕ → List ℕ
 luti4File vl size i1 zn first stride zt z =
-    pick (luti4Ready (length z) (length zt) vl size i1 zn first stride) (lutiFile 4 size vl 4 (i1 % (size / 16)) zn first stride zt z 4) z
+    pick (luti4Ready (length z) (length zt) vl size i1 zn first stride) (lutiFile 4 size vl 4 (segmentOf 4 size 4 i1) zn first stride zt z 4) z

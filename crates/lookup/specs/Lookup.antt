@@ -1,8 +1,12 @@
 -- Document 01, "LUTI4": each destination takes table entries that the indexes of its part of a segment name.
 use mathlib.Core.List.{List}
-use Prim.Native.Nat.{ℕ, zero, suc, _+_, _*_, _/_}
+use Prim.Native.Nat.{ℕ, zero, suc, _+_, _*_, _/_, _%_}
 use Rattle.element.specs.Contents.{elem, field, fill}
 use Rattle.element.specs.Slots.{slot, setSlot}
+
+-- the segment of Zn that i names: k-bit indexes of d destinations, results of s bits, so s/(k·d) segments (LUTI4, 4 bits and four destinations: s/16)
+abbrev pub segmentOf : ℕ → ℕ → ℕ → ℕ → ℕ
+segmentOf k s d i = i % (s / (k * d))
 
 -- where in Zn the index of element e stands: destination r of d, results of s bits
 abbrev pub positionOf : ℕ → ℕ → ℕ → ℕ → ℕ → ℕ → ℕ

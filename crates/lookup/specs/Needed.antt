@@ -59,6 +59,5 @@ pub record LutiReady (file table vl k s d segment zn first stride : ℕ) : Type 
   pub kind : Kind k
   pub result : Result s
   pub inside : d * suc segment * k ≤ s
-  pub some : 0 < d
   pub from : zn < 32
   pub to : first + stride * d < 32 + stride

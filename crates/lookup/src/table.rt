@@ -1,10 +1,10 @@
 // LUTI4 on a lent vector file: the lookups, two elements for each byte of indexes.
 ghost use mathlib.Core.Path.{_≡_};
-ghost use Prim.Native.Nat.{_+_, _*_, _/_, _%_, _^_, _≤_, _<_};
+ghost use Prim.Native.Nat.{_+_, _*_, _/_, _^_, _≤_, _<_};
 ghost use lib.ListN.{length};
 ghost use Rattle.element.specs.Contents.{elem, field, fill};
 ghost use Rattle.element.specs.Slots.{slot};
-ghost use Rattle.lookup.specs.Lookup.{lutiFile};
+ghost use Rattle.lookup.specs.Lookup.{segmentOf, lutiFile};
 ghost use Rattle.lookup.specs.Needed.{EntryReady, Raised, RaisedReady, TableReady, PairsReady, Chunked, Result, LutiReady};
 
 // The entry of ZT0 at a place.
@@ -153,8 +153,8 @@ pub(crate) fn luti4_file(
     first: usize,
     stride: usize,
 )
-    requires { ⌜ LutiReady (length (now z)) (length (now zt)) vl 4 size 4 (i1 % (size / 16)) zn first stride × (i1 < 2) ⌝ }
-    ensures { λ _. ⌜ now (z .exit) ≡ lutiFile 4 size vl 4 (i1 % (size / 16)) zn first stride (now (zt .entry)) (now (z .entry)) 4 ⌝ }
+    requires { ⌜ LutiReady (length (now z)) (length (now zt)) vl 4 size 4 (segmentOf 4 size 4 i1) zn first stride × (i1 < 2) ⌝ }
+    ensures { λ _. ⌜ now (z .exit) ≡ lutiFile 4 size vl 4 (segmentOf 4 size 4 i1) zn first stride (now (zt .entry)) (now (z .entry)) 4 ⌝ }
 {
     if size == 16 {
         four(z, zt, vl, 16, 0, zn, first, stride);

@@ -1,10 +1,10 @@
 -- Document 01, "Operations": new contents of what a word writes, from the contents of what it reads, both in the touch table's order.
 use mathlib.Core.List.{List, [], _∷_}
-use Prim.Native.Nat.{ℕ, _+_, _*_, _/_, _%_}
+use Prim.Native.Nat.{ℕ, _+_, _*_}
 use lib.ListN.{getD}
 use Rattle.pext.specs.Pext.{pextOf}
 use Rattle.dup.specs.Dup.{dupOf}
-use Rattle.lookup.specs.Lookup.{lutiOf}
+use Rattle.lookup.specs.Lookup.{segmentOf, lutiOf}
 use Rattle.narrow.specs.Narrow.{uqrshrnbOf}
 use Rattle.encoding.specs.declared.Instruction.{Instruction}
 use Rattle.encoding.specs.declared.Instruction.the-variants.{Pext1, Pext2, Dup, Luti4c, Luti4s, Uqrshrnb}
@@ -15,7 +15,7 @@ read cs i = getD cs i []
 
 -- LUTI4's four destinations, for both layouts
 abbrev pub luti4Gives : ℕ → ℕ → ℕ → List (List ℕ) → ℕ → List ℕ
-luti4Gives vl size i1 cs r = lutiOf 4 size vl 4 (i1 % (size / 16)) r (read cs 0) (read cs 1)
+luti4Gives vl size i1 cs r = lutiOf 4 size vl 4 (segmentOf 4 size 4 i1) r (read cs 0) (read cs 1)
 
 abbrev pub fourOf : (ℕ → List ℕ) → List (List ℕ)
 fourOf g = g 0 ∷ g 1 ∷ g 2 ∷ g 3 ∷ []

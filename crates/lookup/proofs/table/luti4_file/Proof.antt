@@ -1,21 +1,21 @@
 -- `luti4_file` meets its contract: each size's segment is the definition's.
 use mathlib.Core.Path.{_≡_}
 use mathlib.Core.Logic.{⊎-elim}
-use Prim.Native.Nat.{_/_, _%_}
 use native.Mathlib.Omega.{arith}
 use borrow.Author.Needs.{needs}
+use Rattle.lookup.specs.Lookup.{segmentOf}
 use Rattle.lookup.proofs.table.luti4_file.Statement.{statement}
 use Rattle.lookup.proofs.table.luti4_file.Tie as tie
 
 -- of 16 bits there is one segment
-one : (c : tie.Then1) → let a = c .before .before .before .args in a .i1 % (a .size / 16) ≡ 0
+one : (c : tie.Then1) → let a = c .before .before .before .args in segmentOf 4 (a .size) 4 (a .i1) ≡ 0
 one c = rw (c .if1 .taken) (omega arith)
 
 -- and of 32 bits two
 larger : (c : tie.Else1) → c .before .before .before .args .size ≡ 32
 larger c = ⊎-elim (λ e. absurd (c .if1 .left e)) (λ e. e) (c .before .before .before .pre .0 .result)
 
-two : (c : tie.Else1) → let a = c .before .before .before .args in a .i1 % (a .size / 16) ≡ a .i1
+two : (c : tie.Else1) → let a = c .before .before .before .args in segmentOf 4 (a .size) 4 (a .i1) ≡ a .i1
 two c = rw (larger c) (omega arith)
 
 four-requires : tie.Need-four-requires
