@@ -1,6 +1,7 @@
 /* The proved library's C interface: crates/gighull, built by `rt staticlib gighull` to target/staticlib/libgighull.a.
  * A slice is a pointer and a length (in elements). A pointer of length 0 is not read, and may be null. A function that
- * answers a number answers document 01's.
+ * answers a number answers document 01's. There is no 7: it was for a LUTI4 index position at or past VL/4, which never
+ * comes, and it is not used again.
  *
  * The caller owns everything that it passes: a call borrows it, keeps no pointer to it and frees nothing. The library
  * has no state of its own.
@@ -32,13 +33,13 @@ struct gighull_scalars {
     bool t;
 };
 
-/* One word on the lent machine (8192, 512 and 64 bytes). The record is advanced where it stands. Answers 0 to 7; where
+/* One word on the lent machine (8192, 512 and 64 bytes). The record is advanced where it stands. Answers 0 to 6; where
  * that is not 0, nothing has changed. */
 uint32_t gighull_step(uint8_t *z, size_t z_len, uint8_t *p, size_t p_len, uint8_t *zt, size_t zt_len,
                       struct gighull_scalars *scalars, uint32_t vl, uint32_t features, uint32_t word);
 
 /* A stretch of words on the lent machine, stepped one after the other up to the first that is refused. Answers 0; or 1,
- * 2 or 8 (more than 256 words), before any word; or 3 to 7, for the word that was refused. `*done` is set to how many
+ * 2 or 8 (more than 256 words), before any word; or 3 to 6, for the word that was refused. `*done` is set to how many
  * words were done: all where the answer is 0, none where it is 1, 2 or 8, else as many as stand before the refused one.
  * What those words did to the files stays, `*pc` has moved by 4 for each of them, and nothing else has changed: of the
  * scalars a run moves PC alone, so the others are passed as numbers. */

@@ -1,8 +1,9 @@
 //! # Reference program
 //!
-//! An independent second program for the words of document 01 (`01-scope.md`).
-//! It was written from the documents alone (01, the source documents 000 to
-//! 004 and the list of readings of doubtful points), by a hand that had not
+//! An independent second program for the words of document 01 (`01-scope.md`),
+//! with request 3 of document 02 (`02-change-requests.md`): no answer is 7.
+//! It was written from the documents alone (01, 02, the source documents 000
+//! to 004 and the list of readings of doubtful points), by a hand that had not
 //! seen the proved library, so that the two can be compared. Nothing here is
 //! proved; it is meant to be plain enough to be read against the documents.
 //!

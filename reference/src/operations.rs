@@ -5,7 +5,6 @@
 
 use crate::bits::{element, set_element};
 use crate::counter::Counter;
-use crate::refusal::Refusal;
 
 /// One portion of a counter's mask: elements portion·E to portion·E + E − 1
 /// of the instruction's own size, E being VL/size.
@@ -44,26 +43,22 @@ pub fn dup(
     result
 }
 
-/// The four destinations, in order. Refuses with 7 where an index would lie
-/// past the source's end, which these sizes never cause.
-pub fn luti4(
-    indexes: &[bool],
-    table: &[bool],
-    size: u32,
-    i1: u32,
-    vl: u32,
-) -> Result<Vec<Vec<bool>>, Refusal> {
+/// Which of the source's VL/4 indexes destination r takes at element e.
+fn luti4_position(size: u32, i1: u32, vl: u32, r: u32, e: u32) -> u32 {
     let elements = vl / size;
     let segments = size / 16;
     let segment = i1 % segments;
+    (4 * segment + r) * elements + e
+}
+
+/// The four destinations, in order.
+pub fn luti4(indexes: &[bool], table: &[bool], size: u32, i1: u32, vl: u32) -> Vec<Vec<bool>> {
+    let elements = vl / size;
     let mut destinations = Vec::new();
     for r in 0..4 {
         let mut result = vec![false; vl as usize];
         for e in 0..elements {
-            let position = (4 * segment + r) * elements + e;
-            if position >= vl / 4 {
-                return Err(Refusal::IndexPosition);
-            }
+            let position = luti4_position(size, i1, vl, r, e);
             let index = element(indexes, position as usize, 4);
             let entry = element(table, index as usize, 32);
             let low_bits = entry % (1 << size);
@@ -71,7 +66,7 @@ pub fn luti4(
         }
         destinations.push(result);
     }
-    Ok(destinations)
+    destinations
 }
 
 /// Elements of 2·size bits, rounded, shifted and cut to `size` bits in the
@@ -89,4 +84,31 @@ pub fn uqrshrnb(source: &[bool], size: u32, shift: u32, vl: u32) -> Vec<bool> {
         set_element(&mut result, 2 * e + 1, size, 0);
     }
     result
+}
+
+#[cfg(test)]
+mod tests {
+    use super::*;
+    use crate::setting::VECTOR_LENGTHS;
+
+    /// Document 02, request 3, by trying all of it: no index lies past the
+    /// source's end, and for each size and length one is the source's last.
+    #[test]
+    fn no_luti4_position_reaches_a_quarter_of_vl() {
+        for vl in VECTOR_LENGTHS {
+            for size in [16, 32] {
+                let mut greatest = 0;
+                for i1 in 0..2 {
+                    for r in 0..4 {
+                        for e in 0..vl / size {
+                            let position = luti4_position(size, i1, vl, r, e);
+                            assert!(position < vl / 4, "{size} {i1} {vl} {r} {e}: {position}");
+                            greatest = greatest.max(position);
+                        }
+                    }
+                }
+                assert_eq!(greatest, vl / 4 - 1, "{size} {vl}");
+            }
+        }
+    }
 }

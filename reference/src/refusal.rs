@@ -17,8 +17,6 @@ pub enum Refusal {
     StreamingClosed,
     /// 6: the word needs T and T is closed.
     TableClosed,
-    /// 7: a LUTI4 index position at or past VL/4.
-    IndexPosition,
     /// 8: a stretch of more than 256 words.
     StretchLength,
     /// 9: a field given for writing is outside its range.
@@ -34,7 +32,7 @@ impl Refusal {
             Refusal::VectorClosed => 4,
             Refusal::StreamingClosed => 5,
             Refusal::TableClosed => 6,
-            Refusal::IndexPosition => 7,
+            // No 7: it never comes and is not used again (document 02, request 3).
             Refusal::StretchLength => 8,
             Refusal::Range => 9,
         }

@@ -9,7 +9,7 @@ use crate::operations::{dup, luti4, pext, uqrshrnb};
 use crate::refusal::Refusal;
 use crate::setting::Setting;
 
-/// Refuses with 1, 2, 3, then 4 or 5, 6, 7, and then changes nothing.
+/// Refuses with 1, 2, 3, then 4 or 5, 6, and then changes nothing.
 pub fn step(setting: Setting, word: u32, machine: &mut Machine) -> Result<(), Refusal> {
     if !setting.is_allowed() {
         return Err(Refusal::Setting);
@@ -21,7 +21,7 @@ pub fn step(setting: Setting, word: u32, machine: &mut Machine) -> Result<(), Re
     access::check(instruction.form(), setting, machine.flags)?;
     // Everything is read and computed before anything is written: the machine
     // is only lent for reading here.
-    let results = execute(instruction, setting.vl, machine)?;
+    let results = execute(instruction, setting.vl, machine);
     for result in results {
         match result {
             Written::Vector(register, bits) => machine.set_vector(register, &bits),
@@ -38,8 +38,8 @@ enum Written {
     Predicate(u32, Vec<bool>),
 }
 
-fn execute(instruction: Instruction, vl: u32, machine: &Machine) -> Result<Vec<Written>, Refusal> {
-    Ok(match instruction {
+fn execute(instruction: Instruction, vl: u32, machine: &Machine) -> Vec<Written> {
+    match instruction {
         Instruction::Pext1 {
             size,
             portion,
@@ -78,11 +78,11 @@ fn execute(instruction: Instruction, vl: u32, machine: &Machine) -> Result<Vec<W
             vec![Written::Predicate(pd, result)]
         }
         Instruction::Luti4c { size, i1, zn, zd } => {
-            let results = luti4(&machine.vector(zn, vl), &machine.table(), size, i1, vl)?;
+            let results = luti4(&machine.vector(zn, vl), &machine.table(), size, i1, vl);
             spaced(zd, 1, results)
         }
         Instruction::Luti4s { size, i1, zn, zd } => {
-            let results = luti4(&machine.vector(zn, vl), &machine.table(), size, i1, vl)?;
+            let results = luti4(&machine.vector(zn, vl), &machine.table(), size, i1, vl);
             spaced(zd, 4, results)
         }
         Instruction::Uqrshrnb {
@@ -94,7 +94,7 @@ fn execute(instruction: Instruction, vl: u32, machine: &Machine) -> Result<Vec<W
             let result = uqrshrnb(&machine.vector(zn, vl), size, shift, vl);
             vec![Written::Vector(zd, result)]
         }
-    })
+    }
 }
 
 /// Results for registers a fixed distance apart.

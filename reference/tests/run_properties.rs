@@ -76,7 +76,7 @@ fn nothing_is_defined_without_features() {
 #[test]
 fn a_run_is_repeated_steps() {
     let mut random = Random::new(21);
-    let mut numbers = [0; 10];
+    let mut numbers = [0; 7];
     for _ in 0..300 {
         let setting = any_setting(&mut random);
         let length = random.below(20) as usize;

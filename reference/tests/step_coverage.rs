@@ -270,7 +270,8 @@ fn every_feature_number_and_length() {
 fn numbers_and_text() {
     for seed in SEEDS {
         let questions = generate(seed);
-        let mut counts = [0; 10];
+        // A step answers 0 to 6; there is no place here for any other number.
+        let mut counts = [0; 7];
         for question in &questions {
             counts[question.answer()[0] as usize] += 1;
             let line = step_question_line(question);
@@ -278,7 +279,6 @@ fn numbers_and_text() {
             assert_eq!(read_step_question(&bytes), Ok(*question));
         }
         assert!(counts[0] > 2500);
-        assert!(counts[1..=6].iter().all(|&count| count >= 20), "{counts:?}");
-        assert_eq!(counts[7..], [0, 0, 0]);
+        assert!(counts[1..].iter().all(|&count| count >= 20), "{counts:?}");
     }
 }

@@ -63,7 +63,8 @@ fn each_word(seed: u64, count: usize, mut check: impl FnMut(Setting, u32, Touch,
 
 #[test]
 fn a_refused_step_changes_nothing() {
-    let mut refused = [0; 10];
+    // A step answers 0 to 6; there is no place here for any other number.
+    let mut refused = [0; 7];
     for seed in 1..=3 {
         for question in generate(seed) {
             let before = question.start.machine();
@@ -82,10 +83,8 @@ fn a_refused_step_changes_nothing() {
             }
         }
     }
-    // 7 never comes, 8 and 9 are not for steps.
-    for (number, &count) in refused.iter().enumerate() {
-        assert_eq!(count > 0, (1..=6).contains(&number), "{number}: {count}");
-    }
+    assert_eq!(refused[0], 0);
+    assert!(refused[1..].iter().all(|&count| count > 0), "{refused:?}");
 }
 
 /// Only the low parts of the registers in the table's last column change.

@@ -258,14 +258,15 @@ fn refusals_everywhere() {
                 }));
             }
         }
-        let mut counts = [0; 10];
+        let mut counts: HashMap<u32, usize> = HashMap::new();
         for (_, answer) in &runs {
-            counts[answer[0] as usize] += 1;
+            *counts.entry(answer[0]).or_default() += 1;
         }
-        assert!(counts[0] > 800, "{counts:?}");
-        assert!(counts[1..=6].iter().all(|&count| count >= 12), "{counts:?}");
-        assert_eq!(counts[7], 0);
-        assert!(counts[8] >= 5 && counts[9] == 0, "{counts:?}");
+        assert!(counts[&0] > 800, "{counts:?}");
+        assert!((1..=6).all(|number| counts[&number] >= 12), "{counts:?}");
+        assert!(counts[&8] >= 5, "{counts:?}");
+        // A run answers 0 to 6 or 8 and nothing else.
+        assert_eq!(counts.len(), 8, "{counts:?}");
     }
 }
 

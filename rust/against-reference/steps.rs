@@ -13,7 +13,8 @@ use reference::stretches::{any_machine, any_setting};
 
 #[test]
 fn step_questions_of_three_seeds() {
-    let mut counts = [0; 10];
+    // A step answers 0 to 6; there is no place here for another number.
+    let mut counts = [0; 7];
     for seed in [1, 2, 3] {
         for question in step_questions::generate(seed) {
             let mut machine = question.start.machine();
@@ -21,8 +22,7 @@ fn step_questions_of_three_seeds() {
             counts[number as usize] += 1;
         }
     }
-    assert!(counts[..7].iter().all(|&count| count > 0), "{counts:?}");
-    assert_eq!(counts[7..], [0; 3]);
+    assert!(counts.iter().all(|&count| count > 0), "{counts:?}");
 }
 
 /// Words on one machine that goes on, so that each finds what others left;

@@ -27,7 +27,6 @@ use Rattle.machine.specs.Done.{Ready, Known, PredicateWord, VectorWord, 
 use Rattle.machine.specs.declared.Scalars.{Scalars}
 use Rattle.machine.proofs.Steps.{refused-for, done-for, step-executes, step-ready, step-undefined}
 use Rattle.machine.proofs.Operations.{pext1-done, pext2-done, dup-done, luti4c-done, luti4s-done, uqrshrnb-done}
-use Rattle.machine.proofs.Inside.{luti4c-inside, luti4s-inside}
 
 -- ---- what a known row reads is what the word is read as
 first-at : (s : Setting) (w k : ℕ) (o : Outcome Instruction) → k ≡ placeFirst rows (s .features) w → readAt rows k w ≡ o → firstOf rows (s .features) w ≡ o
@@ -80,15 +79,13 @@ module _ (s : Setting) (w : ℕ) (r : Answer) (z z′ : List ℕ) where
   module _ (zt : List ℕ) (f t : Bool) (size i1 zn zd : ℕ) (answer : numberOf r ≡ pick f (pick t 0 6) 5) where
     pub luti4c-word : readAt rows 3 w ≡ accept (Luti4c size i1 zn zd) → z′ ≡ ifDone (numberOf r) (luti4File (s .vl) size i1 zn zd 1 zt z) z → VectorWord 3 s w (HasST f t) r zt z z′
     luti4c-word e q p c has known =
-        let g = ready s w 3 _ e z p zt c known in
-        on-vectors s w 3 _ e z p zt c known z′ _ (numberOf r) (rw (has .0, has .1, luti4c-inside (s .vl) size i1 zn zd (g .range)) answer) q
-        (luti4c-done z _ p zt c (s .vl) size i1 zn zd g refl)
+        on-vectors s w 3 _ e z p zt c known z′ _ (numberOf r) (rw (has .0, has .1) answer) q
+        (luti4c-done z _ p zt c (s .vl) size i1 zn zd (ready s w 3 _ e z p zt c known) refl)
 
     pub luti4s-word : readAt rows 4 w ≡ accept (Luti4s size i1 zn zd) → z′ ≡ ifDone (numberOf r) (luti4File (s .vl) size i1 zn zd 4 zt z) z → VectorWord 4 s w (HasST f t) r zt z z′
     luti4s-word e q p c has known =
-        let g = ready s w 4 _ e z p zt c known in
-        on-vectors s w 4 _ e z p zt c known z′ _ (numberOf r) (rw (has .0, has .1, luti4s-inside (s .vl) size i1 zn zd (g .range)) answer) q
-        (luti4s-done z _ p zt c (s .vl) size i1 zn zd g refl)
+        on-vectors s w 4 _ e z p zt c known z′ _ (numberOf r) (rw (has .0, has .1) answer) q
+        (luti4s-done z _ p zt c (s .vl) size i1 zn zd (ready s w 4 _ e z p zt c known) refl)
 
   pub uqrshrnb-word : (v : Bool) (size shift zn zd : ℕ) → numberOf r ≡ pick v 0 4 → readAt rows 5 w ≡ accept (Uqrshrnb size shift zn zd)
       → z′ ≡ ifDone (numberOf r) (narrowFile (s .vl) size shift zn zd z) z → TablelessWord 5 s w (HasV v) r z z′

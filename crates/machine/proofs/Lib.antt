@@ -1,5 +1,4 @@
 pub mod Operations
-pub mod Inside
 pub mod Steps
 pub mod Forms
 pub mod Runs

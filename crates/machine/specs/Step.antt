@@ -1,21 +1,19 @@
--- Document 01, "for one step 1, 2, 3, then 4 or 5, 6, 7": what one word is refused for, and what it leaves.
+-- Document 01, "for one step 1, 2, 3, then 4 or 5, 6" (document 02, request 3: the order ends at 6): what one word is refused for, and what it leaves.
 use mathlib.Core.Bool.{Bool, _&&_}
 use mathlib.Core.List.{List, [], _∷_}
-use Prim.Native.Nat.{ℕ, zero, suc, _/_, _%_}
-use lib.Dec.{eqb, ltb}
+use Prim.Native.Nat.{ℕ, zero, suc}
+use lib.Dec.{eqb}
 use lib.ListN.{length}
 use Rattle.setting.specs.Allowed.{allowedOf, hasFeature}
 use Rattle.setting.specs.Numbers.{Outcome, accept, refuse, numberOf}
 use Rattle.setting.specs.declared.Feature.the-variants.{Sve2p1}
 use Rattle.setting.specs.declared.Setting.{Setting}
 use Rattle.element.specs.Size.{pick}
-use Rattle.element.specs.Every.{all}
 use Rattle.order.specs.Banks.{Register}
 use Rattle.order.specs.Touch.{perform, fromReads}
 use Rattle.encoding.specs.Decode.{decodeOf}
 use Rattle.encoding.specs.declared.Instruction.{Instruction}
 use Rattle.encoding.specs.declared.Instruction.the-variants.{Pext1, Pext2, Dup, Luti4c, Luti4s, Uqrshrnb}
-use Rattle.lookup.specs.Lookup.{positionOf}
 use Rattle.machine.specs.Machine.{Machine, machine, get, put, next}
 use Rattle.machine.specs.Touched.{readsOf, writesOf}
 use Rattle.machine.specs.Gives.{givesOf}
@@ -38,17 +36,13 @@ firstFailed (n ∷ ns) = pick (n .holds) (firstFailed ns) (n .number)
 abbrev pub need : ℕ → Bool → Need
 need n b = record { number = n; holds = b }
 
--- 7: no index position of LUTI4 is at or past VL/4, of any element of its four destinations
-unfoldable pub positionsInside : ℕ → ℕ → ℕ → Bool
-positionsInside vl size i1 = all (λ r. all (λ e. ltb (positionOf size vl 4 (i1 % (size / 16)) r e) (vl / 4)) (vl / size)) 4
-
--- the column "Access", and 7
+-- the column "Access"
 abbrev pub needsOf : Setting → Instruction → Scalars → List Need
 needsOf s (Pext1 size imm2 counter pd) c = pick (hasFeature (s .features) Sve2p1) (need 4 (c .v)) (need 5 (c .s)) ∷ []
 needsOf s (Pext2 size i1 counter pd) c = pick (hasFeature (s .features) Sve2p1) (need 4 (c .v)) (need 5 (c .s)) ∷ []
 needsOf s (Dup size offset index pg pn pd) c = need 4 (c .v) ∷ []
-needsOf s (Luti4c size i1 zn zd) c = need 5 (c .s) ∷ need 6 (c .t) ∷ need 7 (positionsInside (s .vl) size i1) ∷ []
-needsOf s (Luti4s size i1 zn zd) c = need 5 (c .s) ∷ need 6 (c .t) ∷ need 7 (positionsInside (s .vl) size i1) ∷ []
+needsOf s (Luti4c size i1 zn zd) c = need 5 (c .s) ∷ need 6 (c .t) ∷ []
+needsOf s (Luti4s size i1 zn zd) c = need 5 (c .s) ∷ need 6 (c .t) ∷ []
 needsOf s (Uqrshrnb size shift zn zd) c = need 4 (c .v) ∷ []
 
 -- what a word reads, writes and gives; nothing where it cannot be read

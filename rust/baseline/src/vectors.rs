@@ -8,7 +8,7 @@ pub type Vectors = [[u8; SLOT_BYTES]; SLOTS];
 pub type Table = [[u8; 4]; ENTRIES];
 
 /// `SIZE` low bytes of table entries, 2 or 4, to four registers. No index
-/// lies past the end of the source, so there is no number 7.
+/// lies past the end of the source.
 pub fn luti4<const SIZE: usize>(
     slots: &mut Vectors,
     table: &Table,

@@ -6,13 +6,15 @@ use std::fmt;
 /// What the library answers: a value, or why there is none. Number 0 is `Ok`.
 pub type Answer<T = ()> = Result<T, Refusal>;
 
-/// Document 01's numbers from 1 to 9.
+/// Document 01's numbers from 1 to 9, without 7: that was for a LUTI4 index
+/// position at or past VL/4, which never comes, and it is not used again.
 ///
 /// ```
 /// use gighull::Refusal;
 /// let refusal = Refusal::VectorClosed;
 /// assert_eq!(refusal.number(), 4);
 /// assert_eq!(refusal.to_string(), "4: the word needs V and V is closed");
+/// assert_eq!(Refusal::from_number(7), None);
 /// ```
 #[derive(Clone, Copy, Debug, PartialEq, Eq, Hash, PartialOrd, Ord)]
 pub enum Refusal {
@@ -28,8 +30,6 @@ pub enum Refusal {
     StreamingClosed = 5,
     /// 6: the word needs T and T is closed
     TableClosed = 6,
-    /// 7: a LUTI4 index position at or past VL/4 (it never comes)
-    IndexPosition = 7,
     /// 8: a stretch of more than 256 words
     StretchLength = 8,
     /// 9: a field given for writing a word is outside its range
@@ -37,14 +37,13 @@ pub enum Refusal {
 }
 
 impl Refusal {
-    pub const ALL: [Refusal; 9] = [
+    pub const ALL: [Refusal; 8] = [
         Refusal::Setting,
         Refusal::FileLength,
         Refusal::Undefined,
         Refusal::VectorClosed,
         Refusal::StreamingClosed,
         Refusal::TableClosed,
-        Refusal::IndexPosition,
         Refusal::StretchLength,
         Refusal::Range,
     ];
@@ -53,7 +52,7 @@ impl Refusal {
         self as u32
     }
 
-    /// None for 0, which is no refusal, and for numbers above 9.
+    /// None for 0, which is no refusal, for 7 and for numbers above 9.
     pub fn from_number(number: u32) -> Option<Refusal> {
         Refusal::ALL
             .into_iter()
@@ -69,7 +68,6 @@ impl Refusal {
             Refusal::VectorClosed => "the word needs V and V is closed",
             Refusal::StreamingClosed => "the word needs S and S is closed",
             Refusal::TableClosed => "the word needs T and T is closed",
-            Refusal::IndexPosition => "a LUTI4 index position at or past VL/4",
             Refusal::StretchLength => "a stretch of more than 256 words",
             Refusal::Range => "a field given for writing a word is outside its range",
         }

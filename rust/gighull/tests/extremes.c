@@ -20,7 +20,7 @@ static unsigned long answers;
 static unsigned long tally[16];
 
 static void told(uint32_t number) {
-    if (number > 9) {
+    if (number > 9 || number == 7) {
         printf("an answer of %u\n", number);
         exit(1);
     }

@@ -102,7 +102,6 @@ impl<'a> Machine<'a> {
         })
     }
 
-    /// There is no number 7: no index of a LUTI4 lies past the source's end.
     fn step(&mut self, word: u32, scalars: &mut Scalars) -> u32 {
         let Some(operation) = decode(self.features, word) else {
             return 3;

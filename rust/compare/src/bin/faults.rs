@@ -45,12 +45,12 @@ const FAULTS: &[Fault] = &[
         name: "write-then-read",
         does: "LUTI4C writes a destination before it reads the next indexes (ruled out by name)",
         file: "step.rs",
-        sound: "let results = luti4(&machine.vector(zn, vl), &machine.table(), size, i1, vl)?;
+        sound: "let results = luti4(&machine.vector(zn, vl), &machine.table(), size, i1, vl);
             spaced(zd, 1, results)",
         faulty: "let mut machine = machine.clone();
             let mut results = Vec::new();
             for r in 0..4 {
-                let all = luti4(&machine.vector(zn, vl), &machine.table(), size, i1, vl)?;
+                let all = luti4(&machine.vector(zn, vl), &machine.table(), size, i1, vl);
                 machine.set_vector(zd + r, &all[r as usize]);
                 results.push(all[r as usize].clone());
             }
