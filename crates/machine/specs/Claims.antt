@@ -1,5 +1,6 @@
--- What `claims` promises of the definitions: the laws of the registers, what a run leaves of the scalars, and the starred cases.
+-- What `claims` promises of the definitions: the numbers that a step and a run answer, the laws of the registers, what a run leaves of the scalars, and the starred cases.
 use mathlib.Core.Path.{_≡_}
+use mathlib.Core.Logic.{_⊎_}
 use mathlib.Core.List.{List}
 use Prim.Native.Nat.{ℕ, _≤_}
 use Rattle.setting.specs.declared.Setting.{Setting}
@@ -7,9 +8,18 @@ use Rattle.element.specs.Every.{Every}
 use Rattle.order.specs.Banks.{sameRegister}
 use Rattle.order.specs.Touch.{Registers}
 use Rattle.machine.specs.Machine.{Machine, get, put, next, flagsOf}
+use Rattle.machine.specs.Step.{stepOf}
 use Rattle.machine.specs.Run.{runOf}
 use Rattle.machine.specs.Done.{movedOn}
 use Rattle.machine.specs.Points.{starred}
+
+-- document 02, request 3: a step answers 0 to 6
+abbrev pub StepAnswers : Type 0
+StepAnswers = (s : Setting) (w : ℕ) (m : Machine) → stepOf s w m .number ≤ 6
+
+-- and a run one of these or 8
+abbrev pub RunAnswers : Type 0
+RunAnswers = (s : Setting) (words : List ℕ) (m : Machine) → (runOf s words m .answer ≤ 6) ⊎ (runOf s words m .answer ≡ 8)
 
 -- two registers that are not the same do not see each other, and PC and the flags stand apart, at any VL up to 2048 and of files of any length
 abbrev pub RegisterLaws : Type 0
@@ -20,6 +30,8 @@ abbrev pub RunMovesPc : Type 0
 RunMovesPc = (s : Setting) (words : List ℕ) (m : Machine) → runOf s words m .left .scalars ≡ movedOn (runOf s words m .done) (m .scalars)
 
 pub record Claims : Type 0 where
+  pub step-answers : StepAnswers
+  pub run-answers : RunAnswers
   pub registers : RegisterLaws
   pub moves : RunMovesPc
   pub starred : Every starred

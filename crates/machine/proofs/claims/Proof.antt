@@ -1,4 +1,5 @@
--- `claims` meets its contract: the theorems, each proved in Registers, Moves or BoardPoints.
+-- `claims` meets its contract: the theorems, each proved in Answers, Registers, Moves or BoardPoints.
+use Rattle.machine.proofs.Answers.{step-answers, run-answers}
 use Rattle.machine.proofs.Registers.{registers}
 use Rattle.machine.proofs.Moves.{run-moves-pc}
 use Rattle.machine.proofs.BoardPoints.{starred-points}
@@ -6,7 +7,7 @@ use Rattle.machine.proofs.claims.Statement.{statement}
 use Rattle.machine.proofs.claims.Tie as tie
 
 returns : tie.Need-returns
-returns c = record { registers = registers; moves = run-moves-pc; starred = starred-points }
+returns c = record { step-answers = step-answers; run-answers = run-answers; registers = registers; moves = run-moves-pc; starred = starred-points }
 
 pub claims-spec : {M : Type 1} → statement M
 claims-spec = tie.close (tie.spec returns)
