@@ -1,5 +1,5 @@
--- `claims` meets its contract: the theorems, each proved in Apart.
-use Rattle.setting.proofs.Apart.{numbers-apart, seven-unused}
+-- `claims` meets its contract: the theorems, each proved in Numbers.
+use Rattle.setting.proofs.Numbers.{numbers-apart, seven-unused}
 use Rattle.setting.proofs.claims.Statement.{statement}
 use Rattle.setting.proofs.claims.Tie as tie
 
