@@ -142,7 +142,8 @@ int main(void) {
     parts_and_lines();
     printf("%lu answers; by number:", answers);
     for (int i = 0; i < 10; i++)
-        printf(" %d: %lu", i, tally[i]);
+        if (i != 7)
+            printf(" %d: %lu", i, tally[i]);
     printf("\n");
     return 0;
 }
