@@ -1,12 +1,13 @@
-// The fields of a word whose row is known.
+// The fields that each row reads of a word, whether it matches or not.
 ghost use mathlib.Core.Path.{_≡_};
 ghost use Prim.Native.Nat.{_+_, _*_, _/_, _%_, _^_, _<_};
 ghost use Rattle.setting.specs.Numbers.{accept};
-ghost use Rattle.element.specs.Units.{sizeAt};
+ghost use Rattle.element.specs.Units.{logOf, sizeAt};
 ghost use Rattle.encoding.specs.Instructions.{narrowSize};
 ghost use Rattle.encoding.specs.Rows.{rows};
 ghost use Rattle.encoding.specs.Decode.{readAt};
-ghost use Rattle.decoder.specs.Operands.{operandsIn, dupAs};
+ghost use Rattle.encoding.specs.declared.Instruction.the-variants.{Pext1, Pext2, Luti4c, Luti4s, Uqrshrnb};
+ghost use Rattle.decoder.specs.Operands.{dupAs};
 use crate::DupOperands;
 use crate::Operands;
 
@@ -25,6 +26,13 @@ pub(crate) fn dup_tsz(word: u32) -> u32
     word / 0x400000 % 2 * 8 + word / 0x40000 % 8
 }
 
+// LUTI4's size field, in both layouts.
+pub(crate) fn luti_size(word: u32) -> u32
+    ensures { λ r. ⌜ (r ≡ word / 0x1000 % 4) × (r < 4) ⌝ }
+{
+    word / 0x1000 % 4
+}
+
 // UQRSHRNB's tszh:tszl, and the result size that it says.
 pub(crate) fn narrow_tsz(word: u32) -> u32
     ensures { λ r. ⌜ r ≡ word / 0x400000 % 2 * 4 + word / 0x80000 % 4 ⌝ }
@@ -41,8 +49,8 @@ fn narrow_size(tsz: u32) -> u32
     if tsz < 4 { 16 } else { 32 }
 }
 
-pub(crate) fn pext1(word: u32) -> Operands
-    ensures { λ r. ⌜ r ≡ operandsIn (readAt rows 0 word) ⌝ }
+pub fn pext1(word: u32) -> Operands
+    ensures { λ r. ⌜ (accept (Pext1 (r .size) (r .immediate) (r .source) (r .destination)) ≡ readAt rows 0 word) × (r .log ≡ logOf (r .size)) ⌝ }
 {
     let log = word / 0x400000 % 4;
     let size = element_size(log);
@@ -56,8 +64,8 @@ pub(crate) fn pext1(word: u32) -> Operands
     }
 }
 
-pub(crate) fn pext2(word: u32) -> Operands
-    ensures { λ r. ⌜ r ≡ operandsIn (readAt rows 1 word) ⌝ }
+pub fn pext2(word: u32) -> Operands
+    ensures { λ r. ⌜ (accept (Pext2 (r .size) (r .immediate) (r .source) (r .destination)) ≡ readAt rows 1 word) × (r .log ≡ logOf (r .size)) ⌝ }
 {
     let log = word / 0x400000 % 4;
     let size = element_size(log);
@@ -81,7 +89,7 @@ fn above_lowest(bits: u32, log: u32) -> u32
     0
 }
 
-pub(crate) fn dup(word: u32) -> DupOperands
+pub fn dup(word: u32) -> DupOperands
     ensures { λ r. ⌜ accept (dupAs r) ≡ readAt rows 2 word ⌝ }
 {
     let bits = word / 0x800000 % 2 * 16 + dup_tsz(word);
@@ -98,10 +106,10 @@ pub(crate) fn dup(word: u32) -> DupOperands
     }
 }
 
-pub(crate) fn luti4c(word: u32) -> Operands
-    ensures { λ r. ⌜ r ≡ operandsIn (readAt rows 3 word) ⌝ }
+pub fn luti4c(word: u32) -> Operands
+    ensures { λ r. ⌜ (accept (Luti4c (r .size) (r .immediate) (r .source) (r .destination)) ≡ readAt rows 3 word) × (r .log ≡ logOf (r .size)) ⌝ }
 {
-    let log = word / 0x1000 % 4;
+    let log = luti_size(word);
     let size = element_size(log);
     let destination = 4 * (word / 4 % 8);
     Operands {
@@ -113,10 +121,10 @@ pub(crate) fn luti4c(word: u32) -> Operands
     }
 }
 
-pub(crate) fn luti4s(word: u32) -> Operands
-    ensures { λ r. ⌜ r ≡ operandsIn (readAt rows 4 word) ⌝ }
+pub fn luti4s(word: u32) -> Operands
+    ensures { λ r. ⌜ (accept (Luti4s (r .size) (r .immediate) (r .source) (r .destination)) ≡ readAt rows 4 word) × (r .log ≡ logOf (r .size)) ⌝ }
 {
-    let log = word / 0x1000 % 4;
+    let log = luti_size(word);
     let size = element_size(log);
     let destination = 16 * (word / 16 % 2) + word % 4;
     Operands {
@@ -128,8 +136,8 @@ pub(crate) fn luti4s(word: u32) -> Operands
     }
 }
 
-pub(crate) fn uqrshrnb(word: u32) -> Operands
-    ensures { λ r. ⌜ r ≡ operandsIn (readAt rows 5 word) ⌝ }
+pub fn uqrshrnb(word: u32) -> Operands
+    ensures { λ r. ⌜ (accept (Uqrshrnb (r .size) (r .immediate) (r .source) (r .destination)) ≡ readAt rows 5 word) × (r .log ≡ logOf (r .size)) ⌝ }
 {
     let tsz = narrow_tsz(word);
     let size = narrow_size(tsz);

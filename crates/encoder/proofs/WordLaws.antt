@@ -1,42 +1,45 @@
 -- What the sums of `words` ask of fields in range, and that each sum is the word of its layout: digits at their places, by linear arithmetic.
-use mathlib.Core.Path.{_≡_, sym}
+use mathlib.Core.Path.{_≡_, sym, ap, _∙_}
 use mathlib.Core.Bool.{true, _&&_, _||_}
+use mathlib.Core.List.{[]}
 use Prim.Native.Nat.{ℕ, _+_, _-_, _*_, _%_, _/_, _<_, _≤_}
 use native.Mathlib.Omega.{arith}
 use lib.Dec.{eqb, ltb, leb, lit<, lit≤}
 use borrow.Author.Tests.{eqb-true, leb-true}
 use Rattle.element.specs.Units.{logOf}
 use Rattle.element.proofs.Tests.{both-yes}
-use Rattle.encoding.specs.Layout.{wordOf}
+use Rattle.encoding.specs.Layout.{wordOf, fixedOf}
 use Rattle.encoding.specs.Instructions.{pextInRange, inRange, rawDupBits, rawOf}
-use Rattle.encoding.specs.Rows.{rowOf, pext1, pext2, dup, luti4c, luti4s, uqrshrnb}
+use Rattle.encoding.specs.Forms.{layoutAt}
+use Rattle.encoding.specs.Rows.{rowOf, placeOf, pext1, pext2, dup, luti4c, luti4s, uqrshrnb}
 use Rattle.encoding.specs.declared.Instruction.{Instruction}
 use Rattle.encoding.specs.declared.Instruction.the-variants.{Pext1, Pext2, Dup, Luti4c, Luti4s, Uqrshrnb}
 use Rattle.encoding.proofs.FieldBits.{luti-size, strided-zd, narrow-bits, narrow-cases}
 use Rattle.encoding.proofs.InRange.{pext-ranges, luti-ranges, narrow-ranges}
+use Rattle.encoding.proofs.Round.{column-at-place}
 
 -- what is known of the instruction in an arm
-pub known-word : {i j : Instruction} {w : ℕ} → i ≡ j → w ≡ wordOf (rowOf j .layout) (rawOf j) → w ≡ wordOf (rowOf i .layout) (rawOf i)
-known-word e h = rw e h
+pub known-word : {i j : Instruction} (w : ℕ) → i ≡ j → fixedOf (rowOf j .layout) + w ≡ wordOf (rowOf j .layout) (rawOf j) → fixedOf (rowOf i .layout) + w ≡ wordOf (rowOf i .layout) (rawOf i)
+known-word w e h = rw e h
 
 -- ---- what the sums ask
-pub pext-asks : (fixed bound size portion counter pd raw : ℕ) → fixed ≤ 0x25207410 → bound ≤ 4 → raw ≡ logOf size → pextInRange bound size portion counter pd ≡ true
-    → (fixed ≤ 0x25207410) × (raw < 4) × (portion < 4) × (8 ≤ counter) × (counter < 16) × (pd < 16)
-pext-asks fixed bound size portion counter pd raw hf hb e h =
+pub pext-asks : (bound size portion counter pd raw : ℕ) → bound ≤ 4 → raw ≡ logOf size → pextInRange bound size portion counter pd ≡ true
+    → (raw < 4) × (portion < 4) × (8 ≤ counter) × (counter < 16) × (pd < 16)
+pext-asks bound size portion counter pd raw hb e h =
     let r = pext-ranges bound size portion counter pd h in
-    (hf, rw e (r .size-log .small), omega (arith, r .portion-lt), r .counter-ge, r .counter-lt, r .pd-lt)
+    (rw e (r .size-log .small), omega (arith, r .portion-lt), r .counter-ge, r .counter-lt, r .pd-lt)
 
-pub luti4c-asks : (size i1 zn zd raw : ℕ) → raw ≡ logOf size → inRange (Luti4c size i1 zn zd) ≡ true → (0xc08a8000 ≤ 0xc09a8000) × (raw < 4) × (i1 < 2) × (zn < 32) × (zd < 32)
+pub luti4c-asks : (size i1 zn zd raw : ℕ) → raw ≡ logOf size → inRange (Luti4c size i1 zn zd) ≡ true → (raw < 4) × (i1 < 2) × (zn < 32) × (zd < 32)
 luti4c-asks size i1 zn zd raw e h =
     let r = luti-ranges (eqb size 16 || eqb size 32) i1 zn (eqb (zd % 4) 0 && leb zd 28) h in
     let most = leb-true zd 28 (both-yes (eqb (zd % 4) 0) (leb zd 28) (r .3) .1) in
-    (lit≤ tt, rw e (luti-size size (r .0) .lt), r .1, r .2, omega arith)
+    (rw e (luti-size size (r .0) .lt), r .1, r .2, omega arith)
 
-pub luti4s-asks : (size i1 zn zd raw : ℕ) → raw ≡ logOf size → inRange (Luti4s size i1 zn zd) ≡ true → (0xc09a8000 ≤ 0xc09a8000) × (raw < 4) × (i1 < 2) × (zn < 32) × (zd < 32)
+pub luti4s-asks : (size i1 zn zd raw : ℕ) → raw ≡ logOf size → inRange (Luti4s size i1 zn zd) ≡ true → (raw < 4) × (i1 < 2) × (zn < 32) × (zd < 32)
 luti4s-asks size i1 zn zd raw e h =
     let r = luti-ranges (eqb size 16) i1 zn (ltb zd 4 || (leb 16 zd && ltb zd 20)) h in
     let d = strided-zd zd (r .3) in
-    (lit≤ tt, rw (e, eqb-true size 16 (r .0)) (lit< tt), r .1, r .2, omega arith)
+    (rw (e, eqb-true size 16 (r .0)) (lit< tt), r .1, r .2, omega arith)
 
 pub narrow-asks : (size shift zn zd : ℕ) → inRange (Uqrshrnb size shift zn zd) ≡ true → (size ≤ 32) × (shift ≤ size) × (2 * size - shift < 64) × (zn < 32) × (zd < 32)
 narrow-asks size shift zn zd h =
@@ -45,31 +48,36 @@ narrow-asks size shift zn zd h =
     let k = leb-true shift size (both-yes (leb 1 shift) (leb shift size) (r .1) .1) in
     (s, k, narrow-bits size (r .0) shift (r .1) .lt, r .2, r .3)
 
--- ---- the sums are the words
-pub pext1-sum : (size imm2 counter pd raw w : ℕ) → raw ≡ logOf size → w ≡ 0x25207010 + raw * 0x400000 + imm2 * 0x100 + (counter - 8) * 32 + pd
-    → w ≡ wordOf (pext1 .layout) (rawOf (Pext1 size imm2 counter pd))
+-- ---- with the fixed bits the sums are the words
+pub pext1-sum : (size imm2 counter pd raw w : ℕ) → raw ≡ logOf size → w ≡ raw * 0x400000 + imm2 * 0x100 + (counter - 8) * 32 + pd
+    → fixedOf (pext1 .layout) + w ≡ wordOf (pext1 .layout) (rawOf (Pext1 size imm2 counter pd))
 pext1-sum size imm2 counter pd raw w e q = omega arith
 
-pub pext2-sum : (size i1 counter pd raw w : ℕ) → raw ≡ logOf size → w ≡ 0x25207410 + raw * 0x400000 + i1 * 0x100 + (counter - 8) * 32 + pd
-    → w ≡ wordOf (pext2 .layout) (rawOf (Pext2 size i1 counter pd))
+pub pext2-sum : (size i1 counter pd raw w : ℕ) → raw ≡ logOf size → w ≡ raw * 0x400000 + i1 * 0x100 + (counter - 8) * 32 + pd
+    → fixedOf (pext2 .layout) + w ≡ wordOf (pext2 .layout) (rawOf (Pext2 size i1 counter pd))
 pext2-sum size i1 counter pd raw w e q = omega arith
 
 pub dup-sum : (size offset index pg pn pd bits w : ℕ) → bits ≡ rawDupBits size offset
-    → w ≡ 0x25204000 + bits / 8 * 0x400000 + bits % 8 * 0x40000 + (index - 12) * 0x10000 + pg * 0x400 + pn * 32 + pd
-    → w ≡ wordOf (dup .layout) (rawOf (Dup size offset index pg pn pd))
+    → w ≡ bits / 8 * 0x400000 + bits % 8 * 0x40000 + (index - 12) * 0x10000 + pg * 0x400 + pn * 32 + pd
+    → fixedOf (dup .layout) + w ≡ wordOf (dup .layout) (rawOf (Dup size offset index pg pn pd))
 dup-sum size offset index pg pn pd bits w e q = rw (sym e) (omega arith)
 
-pub luti4c-sum : (size i1 zn zd raw w : ℕ) → inRange (Luti4c size i1 zn zd) ≡ true → raw ≡ logOf size → w ≡ 0xc08a8000 + i1 * 0x10000 + raw * 0x1000 + zn * 32 + zd
-    → w ≡ wordOf (luti4c .layout) (rawOf (Luti4c size i1 zn zd))
+pub luti4c-sum : (size i1 zn zd raw w : ℕ) → inRange (Luti4c size i1 zn zd) ≡ true → raw ≡ logOf size → w ≡ i1 * 0x10000 + raw * 0x1000 + zn * 32 + zd
+    → fixedOf (luti4c .layout) + w ≡ wordOf (luti4c .layout) (rawOf (Luti4c size i1 zn zd))
 luti4c-sum size i1 zn zd raw w h e q =
     let r = luti-ranges (eqb size 16 || eqb size 32) i1 zn (eqb (zd % 4) 0 && leb zd 28) h in
     let four = eqb-true (zd % 4) 0 (both-yes (eqb (zd % 4) 0) (leb zd 28) (r .3) .0) in
     omega arith
 
-pub luti4s-sum : (size i1 zn zd raw w : ℕ) → raw ≡ logOf size → w ≡ 0xc09a8000 + i1 * 0x10000 + raw * 0x1000 + zn * 32 + zd
-    → w ≡ wordOf (luti4s .layout) (rawOf (Luti4s size i1 zn zd))
+pub luti4s-sum : (size i1 zn zd raw w : ℕ) → raw ≡ logOf size → w ≡ i1 * 0x10000 + raw * 0x1000 + zn * 32 + zd
+    → fixedOf (luti4s .layout) + w ≡ wordOf (luti4s .layout) (rawOf (Luti4s size i1 zn zd))
 luti4s-sum size i1 zn zd raw w e q = omega arith
 
-pub uqrshrnb-sum : (size shift zn zd w : ℕ) → w ≡ 0x45203800 + (2 * size - shift) / 32 * 0x400000 + (2 * size - shift) % 32 * 0x10000 + zn * 32 + zd
-    → w ≡ wordOf (uqrshrnb .layout) (rawOf (Uqrshrnb size shift zn zd))
+pub uqrshrnb-sum : (size shift zn zd w : ℕ) → w ≡ (2 * size - shift) / 32 * 0x400000 + (2 * size - shift) % 32 * 0x10000 + zn * 32 + zd
+    → fixedOf (uqrshrnb .layout) + w ≡ wordOf (uqrshrnb .layout) (rawOf (Uqrshrnb size shift zn zd))
 uqrshrnb-sum size shift zn zd w q = omega arith
+
+-- ---- the fixed bits from the table
+pub with-fixed-bits : (i : Instruction) (y : ℕ) {k x : ℕ} → k ≡ placeOf i → x ≡ fixedOf (layoutAt k) → fixedOf (rowOf i .layout) + y ≡ wordOf (rowOf i .layout) (rawOf i)
+    → x + y ≡ wordOf (rowOf i .layout) (rawOf i)
+with-fixed-bits i y e h q = ap (λ (n : ℕ). n + y) (h ∙ ap (λ (j : ℕ). fixedOf (layoutAt j)) e ∙ ap fixedOf (column-at-place (λ r. r .layout) [] i)) ∙ q

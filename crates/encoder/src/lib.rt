@@ -1,5 +1,4 @@
 // Writes words: the ranges of an instruction's fields, its features, and the word.
-mod features;
 mod ranges;
 mod words;
 
@@ -8,6 +7,7 @@ ghost use Rattle.setting.specs.Numbers.{numberOf};
 ghost use Rattle.encoding.specs.Encode.{unwritten, encodeOf, encodedAs};
 use encoding::Encoded;
 use encoding::Instruction;
+use encoding::table;
 use setting::Answer;
 use setting::Setting;
 
@@ -29,7 +29,7 @@ pub fn encode(setting: Setting, instruction: Instruction) -> Encoded
     if !ranges::in_range(instruction) {
         return refused(Answer::OutOfRange);
     }
-    if !features::available(instruction, features) {
+    if !table::available(encoding::place(instruction), features) {
         return refused(Answer::Undefined);
     }
     Encoded {

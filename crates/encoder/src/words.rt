@@ -1,12 +1,13 @@
-// The word of an instruction whose fields are in range: its layout's fixed bits and each field at its place.
+// The word of an instruction whose fields are in range: its layout's fixed bits, and each field at its place.
 ghost use mathlib.Core.Path.{_≡_};
 ghost use mathlib.Core.Bool.{true};
 ghost use Prim.Native.Nat.{_+_, _-_, _*_, _/_, _%_, _<_, _≤_};
-ghost use Rattle.encoding.specs.Layout.{wordOf};
+ghost use Rattle.encoding.specs.Layout.{wordOf, fixedOf};
 ghost use Rattle.encoding.specs.Instructions.{rawDupBits, inRange, rawOf};
 ghost use Rattle.encoding.specs.Rows.{rowOf};
 use element::log_of;
 use encoding::Instruction;
+use encoding::table;
 
 // DUP's i1:tszh:tszl.
 fn dup_bits(size: u32, offset: u32) -> u32
@@ -16,45 +17,41 @@ fn dup_bits(size: u32, offset: u32) -> u32
     offset * (size / 4) + size / 8
 }
 
-fn pext(fixed: u32, raw: u32, portion: u32, counter: u32, pd: u32) -> u32
-    requires { ⌜ (fixed ≤ 0x25207410) × (raw < 4) × (portion < 4) × (8 ≤ counter) × (counter < 16) × (pd < 16) ⌝ }
-    ensures { λ r. ⌜ r ≡ fixed + raw * 0x400000 + portion * 0x100 + (counter - 8) * 32 + pd ⌝ }
+// Both layouts of PEXT have their fields at the same places.
+fn pext(raw: u32, portion: u32, counter: u32, pd: u32) -> u32
+    requires { ⌜ (raw < 4) × (portion < 4) × (8 ≤ counter) × (counter < 16) × (pd < 16) ⌝ }
+    ensures { λ r. ⌜ r ≡ raw * 0x400000 + portion * 0x100 + (counter - 8) * 32 + pd ⌝ }
 {
-    fixed + raw * 0x400000 + portion * 0x100 + (counter - 8) * 32 + pd
+    raw * 0x400000 + portion * 0x100 + (counter - 8) * 32 + pd
 }
 
 fn dup(bits: u32, index: u32, pg: u32, pn: u32, pd: u32) -> u32
     requires { ⌜ (bits < 32) × (12 ≤ index) × (index < 16) × (pg < 16) × (pn < 16) × (pd < 16) ⌝ }
-    ensures { λ r. ⌜ r ≡ 0x25204000 + bits / 8 * 0x400000 + bits % 8 * 0x40000 + (index - 12) * 0x10000 + pg * 0x400 + pn * 32 + pd ⌝ }
+    ensures { λ r. ⌜ r ≡ bits / 8 * 0x400000 + bits % 8 * 0x40000 + (index - 12) * 0x10000 + pg * 0x400 + pn * 32 + pd ⌝ }
 {
-    0x25204000
-        + bits / 8 * 0x400000
-        + bits % 8 * 0x40000
-        + (index - 12) * 0x10000
-        + pg * 0x400
-        + pn * 32
-        + pd
+    bits / 8 * 0x400000 + bits % 8 * 0x40000 + (index - 12) * 0x10000 + pg * 0x400 + pn * 32 + pd
 }
 
 // Both layouts of LUTI4 have the first destination's number in the word's low five bits.
-fn luti(fixed: u32, raw: u32, i1: u32, zn: u32, zd: u32) -> u32
-    requires { ⌜ (fixed ≤ 0xc09a8000) × (raw < 4) × (i1 < 2) × (zn < 32) × (zd < 32) ⌝ }
-    ensures { λ r. ⌜ r ≡ fixed + i1 * 0x10000 + raw * 0x1000 + zn * 32 + zd ⌝ }
+fn luti(raw: u32, i1: u32, zn: u32, zd: u32) -> u32
+    requires { ⌜ (raw < 4) × (i1 < 2) × (zn < 32) × (zd < 32) ⌝ }
+    ensures { λ r. ⌜ r ≡ i1 * 0x10000 + raw * 0x1000 + zn * 32 + zd ⌝ }
 {
-    fixed + i1 * 0x10000 + raw * 0x1000 + zn * 32 + zd
+    i1 * 0x10000 + raw * 0x1000 + zn * 32 + zd
 }
 
 fn narrow(size: u32, shift: u32, zn: u32, zd: u32) -> u32
     requires { ⌜ (size ≤ 32) × (shift ≤ size) × (2 * size - shift < 64) × (zn < 32) × (zd < 32) ⌝ }
-    ensures { λ r. ⌜ r ≡ 0x45203800 + (2 * size - shift) / 32 * 0x400000 + (2 * size - shift) % 32 * 0x10000 + zn * 32 + zd ⌝ }
+    ensures { λ r. ⌜ r ≡ (2 * size - shift) / 32 * 0x400000 + (2 * size - shift) % 32 * 0x10000 + zn * 32 + zd ⌝ }
 {
     let bits = 2 * size - shift;
-    0x45203800 + bits / 32 * 0x400000 + bits % 32 * 0x10000 + zn * 32 + zd
+    bits / 32 * 0x400000 + bits % 32 * 0x10000 + zn * 32 + zd
 }
 
-pub(crate) fn word_of(instruction: Instruction) -> u32
+// The fields alone, each at its place.
+fn fields_of(instruction: Instruction) -> u32
     requires { ⌜ inRange instruction ≡ true ⌝ }
-    ensures { λ r. ⌜ r ≡ wordOf (rowOf instruction .layout) (rawOf instruction) ⌝ }
+    ensures { λ r. ⌜ fixedOf (rowOf instruction .layout) + r ≡ wordOf (rowOf instruction .layout) (rawOf instruction) ⌝ }
 {
     match instruction {
         Instruction::Pext1 {
@@ -62,13 +59,13 @@ pub(crate) fn word_of(instruction: Instruction) -> u32
             imm2,
             counter,
             pd,
-        } => pext(0x25207010, log_of(size), imm2, counter, pd),
+        } => pext(log_of(size), imm2, counter, pd),
         Instruction::Pext2 {
             size,
             i1,
             counter,
             pd,
-        } => pext(0x25207410, log_of(size), i1, counter, pd),
+        } => pext(log_of(size), i1, counter, pd),
         Instruction::Dup {
             size,
             offset,
@@ -77,8 +74,8 @@ pub(crate) fn word_of(instruction: Instruction) -> u32
             pn,
             pd,
         } => dup(dup_bits(size, offset), index, pg, pn, pd),
-        Instruction::Luti4c { size, i1, zn, zd } => luti(0xc08a8000, log_of(size), i1, zn, zd),
-        Instruction::Luti4s { size, i1, zn, zd } => luti(0xc09a8000, log_of(size), i1, zn, zd),
+        Instruction::Luti4c { size, i1, zn, zd } => luti(log_of(size), i1, zn, zd),
+        Instruction::Luti4s { size, i1, zn, zd } => luti(log_of(size), i1, zn, zd),
         Instruction::Uqrshrnb {
             size,
             shift,
@@ -86,4 +83,12 @@ pub(crate) fn word_of(instruction: Instruction) -> u32
             zd,
         } => narrow(size, shift, zn, zd),
     }
+}
+
+pub(crate) fn word_of(instruction: Instruction) -> u32
+    requires { ⌜ inRange instruction ≡ true ⌝ }
+    ensures { λ r. ⌜ r ≡ wordOf (rowOf instruction .layout) (rawOf instruction) ⌝ }
+{
+    let fixed = table::fixed_bits(encoding::place(instruction));
+    fixed + fields_of(instruction)
 }

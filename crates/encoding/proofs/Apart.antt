@@ -7,8 +7,8 @@ use native.Mathlib.Omega.{arith}
 use lib.Dec.{T, eqb, T-not, eqb-refl}
 use lib.Arith.{bin-ind}
 use lib.Bits.{bitAnd, and-step}
-use Rattle.encoding.specs.Layout.{Piece, matches}
-use Rattle.encoding.proofs.LayoutLaws.{sound, maskOf, fixedOf, matches-masked}
+use Rattle.encoding.specs.Layout.{Piece, matches, fixedOf}
+use Rattle.encoding.proofs.LayoutLaws.{sound, maskOf, matches-masked}
 
 -- ---- two masks in either order
 least-exchange : (x y z : ℕ) → min (min x y) z ≡ min (min x z) y

@@ -1,11 +1,11 @@
 -- The first row that matches, and that among layouts pairwise apart at most one matches, so that a row that matches is the first: by induction on the rows.
 use mathlib.Core.Path.{_≡_, refl, sym, ap}
 use mathlib.Core.Bool.{Bool, true, false, _&&_}
-use mathlib.Core.List.{List, [], _∷_}
+use mathlib.Core.List.{List, [], _∷_, map}
 use Prim.Native.Nat.{ℕ, zero, suc, _≤_}
 use native.Mathlib.Omega.{arith}
 use lib.Dec.{T}
-use lib.ListN.{length}
+use lib.ListN.{length, getD}
 use Rattle.setting.specs.Numbers.{accept, refuse}
 use Rattle.element.proofs.Below.{both}
 use Rattle.encoding.specs.Layout.{fieldsOf, matches}
@@ -28,9 +28,7 @@ disjoint (r ∷ rs) = apartFrom r rs && disjoint rs
 
 -- the row at a place matches
 abbrev pub matchesAt : List Row → ℕ → ℕ → ℕ → Bool
-matchesAt [] k f w = false
-matchesAt (r ∷ rs) zero f w = rowMatches r f w
-matchesAt (r ∷ rs) (suc k) f w = matchesAt rs k f w
+matchesAt rs k f w = getD (map (λ (r : Row). rowMatches r f w) rs) k false
 
 pub read-past : (rs : List Row) (k w : ℕ) → length rs ≤ k → readAt rs k w ≡ refuse 3
 read-past [] k w h = refl
@@ -48,7 +46,7 @@ own-sound r [] a = a
 own-sound r (q ∷ qs) a = own-sound r qs (both (sound (q .layout) && apart (r .layout) (q .layout)) (apartFrom r qs) a .1)
 
 -- where a row's layout matches, none that is apart from it does
-others-not : (r : Row) (rs : List Row) → T (apartFrom r rs) → (w : ℕ) → matches (r .layout) w ≡ true → noRow (λ q. matches (q .layout) w) rs
+pub others-not : (r : Row) (rs : List Row) → T (apartFrom r rs) → (w : ℕ) → matches (r .layout) w ≡ true → noRow (λ q. matches (q .layout) w) rs
 others-not r [] a w m = tt
 others-not r (q ∷ qs) a w m =
     let p = both (sound (q .layout) && apart (r .layout) (q .layout)) (apartFrom r qs) a in
@@ -98,6 +96,16 @@ refused-none (r ∷ rs) f w e =
     decide (rowMatches r f w)
     (λ m. let a = simp m at e in let z : _≡_ {A = ℕ} 0 1 = cc in absurd (omega arith))
     (λ m. (m, refused-none rs f w (simp m at e)))
+
+-- a test of every row of a list, and what it says of the one at a place
+abbrev pub testRows : (Row → Bool) → List Row → Bool
+testRows t [] = true
+testRows t (r ∷ rs) = t r && testRows t rs
+
+pub each-row : (t : Row → Bool) (rs : List Row) (d : Row) → T (testRows t rs) → T (t d) → (k : ℕ) → T (t (getD rs k d))
+each-row t [] d a h k = h
+each-row t (r ∷ rs) d a h zero = both (t r) (testRows t rs) a .0
+each-row t (r ∷ rs) d a h (suc k) = each-row t rs d (both (t r) (testRows t rs) a .1) h k
 
 -- what holds of every row of a list
 abbrev pub everyRow : (Row → Type 0) → List Row → Type 0

@@ -11,7 +11,7 @@ use lib.Bits.{bitAnd, and-block, and-zero-r, and-mask}
 use lib.Pow.{pow-add, pow-pos, high, low, split, mod-pow-add, ones-lt}
 use borrow.Author.Tests.{eq-eqb, eqb-true}
 use Rattle.element.proofs.Below.{both}
-use Rattle.encoding.specs.Layout.{Piece, fix, var, width, fieldsOf, wordOf, matches}
+use Rattle.encoding.specs.Layout.{Piece, fix, var, width, fieldsOf, wordOf, matches, fixedOf}
 
 -- each fixed piece is within its bits
 abbrev pub sound : List Piece → Bool
@@ -27,16 +27,11 @@ Fit (fix k v ∷ L) xs = (v < 2 ^ k) × Fit L xs
 Fit (var k ∷ L) [] = ⊥
 Fit (var k ∷ L) (x ∷ xs) = (x < 2 ^ k) × Fit L xs
 
--- the fixed bits, and what they are fixed to
+-- the bits that a layout fixes
 abbrev pub maskOf : List Piece → ℕ
 maskOf [] = 0
 maskOf (fix k v ∷ L) = (2 ^ k - 1) * 2 ^ width L + maskOf L
 maskOf (var k ∷ L) = maskOf L
-
-abbrev pub fixedOf : List Piece → ℕ
-fixedOf [] = 0
-fixedOf (fix k v ∷ L) = v * 2 ^ width L + fixedOf L
-fixedOf (var k ∷ L) = fixedOf L
 
 -- ---- a piece above the rest
 split-at : (h k m x l : ℕ) → h * 2 ^ (k + m) + (x * 2 ^ m + l) ≡ (h * 2 ^ k + x) * 2 ^ m + l

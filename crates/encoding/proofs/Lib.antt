@@ -4,5 +4,6 @@ pub mod Choice
 pub mod FieldBits
 pub mod InRange
 pub mod WrittenBack
+pub mod Columns
 pub mod Round
 pub mod BoardPoints

@@ -1,27 +1,29 @@
 -- The four claims: undefined exactly, one layout, decode after encode, encode after decode. From the laws of rows and the facts of each form's fields.
-use mathlib.Core.Path.{_≡_, refl, ap, subst, _∙_}
-use mathlib.Core.Bool.{true, _&&_}
-use mathlib.Core.List.{List}
-use Prim.Native.Nat.{ℕ, suc}
+use mathlib.Core.Path.{_≡_, refl, sym, ap, subst, _∙_}
+use mathlib.Core.Bool.{true, false, _&&_}
+use mathlib.Core.List.{List, [], map}
+use Prim.Native.Nat.{ℕ, suc, _^_, _<_}
 use native.Mathlib.Omega.{arith}
-use lib.Dec.{T}
+use lib.Dec.{T, eqb, eqb→eq}
+use native.Mathlib.Decide.{decLt}
+use lib.ListN.{length, getD, List·getD-eq-default}
 use borrow.Author.Tests.{eqb-true}
-use Rattle.setting.specs.Allowed.{allowedOf}
-use Rattle.setting.specs.Numbers.{accept}
+use Rattle.setting.specs.Allowed.{hasAny, allowedOf}
+use Rattle.setting.specs.Numbers.{accept, refuse}
 use Rattle.setting.specs.declared.Setting.{Setting}
 use Rattle.element.proofs.Tests.{both-yes}
-use Rattle.encoding.specs.Layout.{fieldsOf, wordOf, matches}
+use Rattle.encoding.specs.Layout.{width, fieldsOf, wordOf, matches}
 use Rattle.encoding.specs.Instructions.{inRange, rawOf}
-use Rattle.encoding.specs.Rows.{Row, rows, rowOf, rowMatches, pext1, pext2, dup, luti4c, luti4s, uqrshrnb}
-use Rattle.encoding.specs.Forms.{placeOf, placeFirst}
+use Rattle.encoding.specs.Rows.{Row, rows, rowOf, rowMatches, placeOf, pext1, pext2, dup, luti4c, luti4s, uqrshrnb}
+use Rattle.encoding.specs.Forms.{placeFirst}
 use Rattle.encoding.specs.Decode.{firstOf, decodeOf, readAt}
 use Rattle.encoding.specs.Encode.{Written, written, encodeOf}
 use Rattle.encoding.specs.Claims.{UndefinedExactly, OneLayout, DecodeEncode, EncodeDecode}
 use Rattle.encoding.specs.declared.Instruction.{Instruction}
 use Rattle.encoding.specs.declared.Instruction.the-variants.{Pext1, Pext2, Dup, Luti4c, Luti4s, Uqrshrnb}
-use Rattle.encoding.proofs.LayoutLaws.{fields-back, word-matches}
+use Rattle.encoding.proofs.LayoutLaws.{word-lt, fields-back, word-matches}
 use Rattle.encoding.proofs.Apart.{decide}
-use Rattle.encoding.proofs.Choice.{disjoint, matchesAt, none-first, first-is-read, place-is, at-most-one, refused-none, accepted-by}
+use Rattle.encoding.proofs.Choice.{disjoint, matchesAt, none-first, first-is-read, place-is, at-most-one, refused-none, each-row, accepted-by}
 use Rattle.encoding.proofs.InRange.{in-range-reads}
 use Rattle.encoding.proofs.WrittenBack.{RowWrites, pext1-writes, pext2-writes, dup-row-writes, luti4c-row-writes, luti4s-row-writes, uqrshrnb-row-writes}
 
@@ -38,24 +40,27 @@ pub one-layout : OneLayout
 one-layout w = at-most-one rows rows-disjoint w
 
 -- ---- decode after encode
-matches-at-place : (i : Instruction) (f w : ℕ) → matchesAt rows (placeOf i) f w ≡ rowMatches (rowOf i) f w
-matches-at-place (Pext1 size imm2 counter pd) f w = refl
-matches-at-place (Pext2 size i1 counter pd) f w = refl
-matches-at-place (Dup size offset index pg pn pd) f w = refl
-matches-at-place (Luti4c size i1 zn zd) f w = refl
-matches-at-place (Luti4s size i1 zn zd) f w = refl
-matches-at-place (Uqrshrnb size shift zn zd) f w = refl
+-- what stands in a column at an instruction's place is its row's
+pub column-at-place : {A : Type 0} (f : Row → A) (d : A) (i : Instruction) → getD (map f rows) (placeOf i) d ≡ f (rowOf i)
+column-at-place f d (Pext1 size imm2 counter pd) = refl
+column-at-place f d (Pext2 size i1 counter pd) = refl
+column-at-place f d (Dup size offset index pg pn pd) = refl
+column-at-place f d (Luti4c size i1 zn zd) = refl
+column-at-place f d (Luti4s size i1 zn zd) = refl
+column-at-place f d (Uqrshrnb size shift zn zd) = refl
 
-read-at-place : (i : Instruction) (w : ℕ) → readAt rows (placeOf i) w ≡ accept (rowOf i .reading (fieldsOf (rowOf i .layout) w))
-read-at-place (Pext1 size imm2 counter pd) w = refl
-read-at-place (Pext2 size i1 counter pd) w = refl
-read-at-place (Dup size offset index pg pn pd) w = refl
-read-at-place (Luti4c size i1 zn zd) w = refl
-read-at-place (Luti4s size i1 zn zd) w = refl
-read-at-place (Uqrshrnb size shift zn zd) w = refl
+-- so its place is one of the table's: a column of zeros has none past its end
+pub place-lt : (i : Instruction) → placeOf i < length rows
+place-lt i = go (decLt (placeOf i) (length rows))
+  where
+    go : Dec (placeOf i < length rows) → placeOf i < length rows
+    go (yes l) = l
+    go (no l) =
+        let z : _≡_ {A = ℕ} 1 0 = sym (List·getD-eq-default (map (λ (r : Row). 0) rows) 1 {n = placeOf i} (omega arith)) ∙ column-at-place (λ r. 0) 1 i in
+        absurd (omega arith)
 
 -- the word of an instruction in range is read as that instruction
-own-word : (i : Instruction) (f : ℕ) → inRange i ≡ true → rowOf i .features f ≡ true → firstOf rows f (wordOf (rowOf i .layout) (rawOf i)) ≡ accept i
+own-word : (i : Instruction) (f : ℕ) → inRange i ≡ true → hasAny f (rowOf i .features) ≡ true → firstOf rows f (wordOf (rowOf i .layout) (rawOf i)) ≡ accept i
 own-word i f g h =
     let r = in-range-reads i g in
     let L = rowOf i .layout in
@@ -63,8 +68,17 @@ own-word i f g h =
     let m : matches L w ≡ true = word-matches L (rawOf i) (r .fit) in
     let fields : fieldsOf L w ≡ rawOf i = fields-back L (rawOf i) (r .fit) in
     let all : rowMatches (rowOf i) f w ≡ true = rw (m, h) (ap (rowOf i .condition) fields ∙ r .holds) in
-    let place : placeFirst rows f w ≡ placeOf i = place-is rows rows-disjoint (placeOf i) f w (matches-at-place i f w ∙ all) in
-    first-is-read rows f w ∙ ap (λ (k : ℕ). readAt rows k w) place ∙ read-at-place i w ∙ ap accept (ap (rowOf i .reading) fields ∙ r .back)
+    let place : placeFirst rows f w ≡ placeOf i = place-is rows rows-disjoint (placeOf i) f w (column-at-place (λ r. rowMatches r f w) false i ∙ all) in
+    first-is-read rows f w ∙ ap (λ (k : ℕ). readAt rows k w) place ∙ column-at-place (λ r. accept (r .reading (fieldsOf (r .layout) w))) (refuse 3) i ∙ ap accept (ap (rowOf i .reading) fields ∙ r .back)
+
+-- and it is a word of 32 bits, as every layout is: computed
+own-width : (i : Instruction) → width (rowOf i .layout) ≡ 32
+own-width i =
+    eqb→eq (width (rowOf i .layout)) 32
+    (subst (λ (r : Row). T (eqb (width (r .layout)) 32)) (column-at-place (λ r. r) pext1 i) (each-row (λ r. eqb (width (r .layout)) 32) rows pext1 tt tt (placeOf i)))
+
+pub own-word-lt : (i : Instruction) → inRange i ≡ true → wordOf (rowOf i .layout) (rawOf i) < 2 ^ 32
+own-word-lt i g = subst (λ (n : ℕ). wordOf (rowOf i .layout) (rawOf i) < 2 ^ n) (own-width i) (word-lt (rowOf i .layout) (rawOf i) (in-range-reads i g .fit))
 
 not-zero : {X : Type 0} {n : ℕ} (w : ℕ) → _≡_ {A = Written} (record { number = suc n; word = 0 }) (written w) → X
 not-zero {n = n} w e = let z : suc n ≡ 0 = ap (λ (x : Written). x .number) e in absurd (omega arith)
@@ -74,7 +88,7 @@ unfolding decodeOf encodeOf
 decode-encode s i w e =
     decide (allowedOf s)
     (λ a. decide (inRange i)
-    (λ g. decide (rowOf i .features (s .features))
+    (λ g. decide (hasAny (s .features) (rowOf i .features))
     (λ h. let v : wordOf (rowOf i .layout) (rawOf i) ≡ w = ap (λ (x : Written). x .word) (simp (a, g, h) at e) in
     simp a (subst (λ (x : ℕ). firstOf rows (s .features) x ≡ accept i) v (own-word i (s .features) g h)))
     (λ h. not-zero w (simp (a, g, h) at e)))
@@ -88,8 +102,8 @@ row-back : (s : Setting) (r : Row) → ((xs : List ℕ) → rowOf (r .reading xs
 unfolding encodeOf
 row-back s r own writes a w m =
     let xs = fieldsOf (r .layout) w in
-    let p = both-yes (matches (r .layout) w && r .features (s .features)) (r .condition xs) m in
-    let q = both-yes (matches (r .layout) w) (r .features (s .features)) (p .0) in
+    let p = both-yes (matches (r .layout) w && hasAny (s .features) (r .features)) (r .condition xs) m in
+    let q = both-yes (matches (r .layout) w) (hasAny (s .features) (r .features)) (p .0) in
     let b = writes w (p .1) in
     simp (a, b .range, own xs, q .1, b .back) (ap written (eqb-true (wordOf (r .layout) xs) w (q .0)))
 

@@ -1,6 +1,7 @@
 -- Document 01, "for reading a word 1, 3": what a word is read as under a setting.
-use mathlib.Core.List.{List, [], _∷_}
-use Prim.Native.Nat.{ℕ, zero, suc}
+use mathlib.Core.List.{List, [], _∷_, map}
+use Prim.Native.Nat.{ℕ}
+use lib.ListN.{getD}
 use Rattle.setting.specs.Allowed.{allowedOf}
 use Rattle.setting.specs.Numbers.{Outcome, accept, refuse, numberOf}
 use Rattle.setting.specs.declared.Setting.{Setting}
@@ -18,9 +19,7 @@ firstOf (r ∷ rs) f w = pick (rowMatches r f w) (accept (r .reading (fieldsOf (
 
 -- what the row at a place of the table, from 0, reads; 3 past its end
 abbrev pub readAt : List Row → ℕ → ℕ → Outcome Instruction
-readAt [] k w = refuse 3
-readAt (r ∷ rs) zero w = accept (r .reading (fieldsOf (r .layout) w))
-readAt (r ∷ rs) (suc k) w = readAt rs k w
+readAt rs k w = getD (map (λ (r : Row). accept (r .reading (fieldsOf (r .layout) w))) rs) k (refuse 3)
 
 unfoldable pub decodeOf : Setting → ℕ → Outcome Instruction
 decodeOf s w = pick (allowedOf s) (firstOf rows (s .features) w) (refuse 1)

@@ -1,6 +1,6 @@
 -- Document 01, "for writing a word 1, 9, 3": the word that an instruction is written as under a setting.
 use Prim.Native.Nat.{ℕ}
-use Rattle.setting.specs.Allowed.{allowedOf}
+use Rattle.setting.specs.Allowed.{hasAny, allowedOf}
 use Rattle.setting.specs.Numbers.{numberOf}
 use Rattle.setting.specs.declared.Setting.{Setting}
 use Rattle.element.specs.Size.{pick}
@@ -25,7 +25,7 @@ unfoldable pub encodeOf : Setting → Instruction → Written
 encodeOf s i =
     pick (allowedOf s)
     (pick (inRange i)
-    (pick (rowOf i .features (s .features)) (written (wordOf (rowOf i .layout) (rawOf i))) (unwritten 3))
+    (pick (hasAny (s .features) (rowOf i .features)) (written (wordOf (rowOf i .layout) (rawOf i))) (unwritten 3))
     (unwritten 9))
     (unwritten 1)
 

@@ -27,6 +27,12 @@ wordOf (fix k v ∷ L) xs = v * 2 ^ width L + wordOf L xs
 wordOf (var k ∷ L) [] = 0
 wordOf (var k ∷ L) (x ∷ xs) = x * 2 ^ width L + wordOf L xs
 
+-- the word of fields that are all 0: what the fixed bits are fixed to
+abbrev pub fixedOf : List Piece → ℕ
+fixedOf [] = 0
+fixedOf (fix k v ∷ L) = v * 2 ^ width L + fixedOf L
+fixedOf (var k ∷ L) = fixedOf L
+
 -- the word is the word of its own fields: every fixed piece is as the layout has it
 abbrev pub matches : List Piece → ℕ → Bool
 matches L w = eqb (wordOf L (fieldsOf L w)) w

@@ -1,9 +1,10 @@
--- Document 01, "Layouts": the six rows of the table, each a layout with its features, its field condition and what its fields are read as.
+-- Document 01, "Layouts": the six rows of the table, each a layout with its features, its field condition, what its fields are read as, and its name.
 use mathlib.Core.Bool.{Bool, true, not, _&&_, _||_}
 use mathlib.Core.List.{List, [], _∷_}
 use Prim.Native.Nat.{ℕ, _+_, _*_}
 use lib.Dec.{eqb}
-use Rattle.setting.specs.Allowed.{hasFeature}
+use Rattle.setting.specs.Allowed.{hasAny}
+use Rattle.setting.specs.declared.Feature.{Feature}
 use Rattle.setting.specs.declared.Feature.the-variants.{Sve2, Sve2p1, Sme, Sme2, Sme2p1}
 use Rattle.encoding.specs.Layout.{Piece, fix, var, fieldsOf, matches}
 use Rattle.encoding.specs.Instructions.{raw, readPext1, readPext2, readDup, readLuti4c, readLuti4s, narrowTsz, readUqrshrnb}
@@ -12,70 +13,83 @@ use Rattle.encoding.specs.declared.Instruction.the-variants.{Pext1, Pext
 
 pub record Row : Type 0 where
   pub layout : List Piece
-  -- of a feature number
-  pub features : ℕ → Bool
-  -- of the raw fields
+  -- one of them is enough
+  pub features : List Feature
+  -- the rest is of the raw fields; a name is in ASCII
   pub condition : List ℕ → Bool
   pub reading : List ℕ → Instruction
+  pub name : List ℕ → List ℕ
 
 -- 00100101 <size:2> 10000001110 0 <imm2> <PNn:3> 1 <Pd:4>
 abbrev pub pext1 : Row
 pext1 = record {
   layout = fix 8 0b00100101 ∷ var 2 ∷ fix 11 0b10000001110 ∷ fix 1 0b0 ∷ var 2 ∷ var 3 ∷ fix 1 0b1 ∷ var 4 ∷ [];
-  features = λ f. hasFeature f Sme2 || hasFeature f Sve2p1;
+  features = Sme2 ∷ Sve2p1 ∷ [];
   condition = λ xs. true;
   reading = readPext1;
+  -- PEXT1
+  name = λ xs. 80 ∷ 69 ∷ 88 ∷ 84 ∷ 49 ∷ [];
 }
 
 -- 00100101 <size:2> 10000001110 1 0 <i1> <PNn:3> 1 <Pd:4>
 abbrev pub pext2 : Row
 pext2 = record {
   layout = fix 8 0b00100101 ∷ var 2 ∷ fix 11 0b10000001110 ∷ fix 1 0b1 ∷ fix 1 0b0 ∷ var 1 ∷ var 3 ∷ fix 1 0b1 ∷ var 4 ∷ [];
-  features = λ f. hasFeature f Sme2 || hasFeature f Sve2p1;
+  features = Sme2 ∷ Sve2p1 ∷ [];
   condition = λ xs. true;
   reading = readPext2;
+  -- PEXT2
+  name = λ xs. 80 ∷ 69 ∷ 88 ∷ 84 ∷ 50 ∷ [];
 }
 
 -- 00100101 <i1> <tszh> 1 <tszl:3> <Rm:2> 01 <Pg:4> 0 <Pn:4> 0 <Pd:4>; tszh:tszl not 0000
 abbrev pub dup : Row
 dup = record {
   layout = fix 8 0b00100101 ∷ var 1 ∷ var 1 ∷ fix 1 0b1 ∷ var 3 ∷ var 2 ∷ fix 2 0b01 ∷ var 4 ∷ fix 1 0b0 ∷ var 4 ∷ fix 1 0b0 ∷ var 4 ∷ [];
-  features = λ f. hasFeature f Sme;
+  features = Sme ∷ [];
   condition = λ xs. not (eqb (raw xs 1 * 8 + raw xs 2) 0);
   reading = readDup;
+  -- DUP
+  name = λ xs. 68 ∷ 85 ∷ 80 ∷ [];
 }
 
 -- 1100000010001 01 <i1> 10 <size:2> 00 <Zn:5> <Zd:3> 00; size 01 or 10
 abbrev pub luti4c : Row
 luti4c = record {
   layout = fix 13 0b1100000010001 ∷ fix 2 0b01 ∷ var 1 ∷ fix 2 0b10 ∷ var 2 ∷ fix 2 0b00 ∷ var 5 ∷ var 3 ∷ fix 2 0b00 ∷ [];
-  features = λ f. hasFeature f Sme2;
+  features = Sme2 ∷ [];
   condition = λ xs. eqb (raw xs 1) 1 || eqb (raw xs 1) 2;
   reading = readLuti4c;
+  -- LUTI4C
+  name = λ xs. 76 ∷ 85 ∷ 84 ∷ 73 ∷ 52 ∷ 67 ∷ [];
 }
 
 -- 1100000010011 01 <i1> 10 <size:2> 00 <Zn:5> <D> 00 <Zd:2>; size 01
 abbrev pub luti4s : Row
 luti4s = record {
   layout = fix 13 0b1100000010011 ∷ fix 2 0b01 ∷ var 1 ∷ fix 2 0b10 ∷ var 2 ∷ fix 2 0b00 ∷ var 5 ∷ var 1 ∷ fix 2 0b00 ∷ var 2 ∷ [];
-  features = λ f. hasFeature f Sme2p1;
+  features = Sme2p1 ∷ [];
   condition = λ xs. eqb (raw xs 1) 1;
   reading = readLuti4s;
+  -- LUTI4S
+  name = λ xs. 76 ∷ 85 ∷ 84 ∷ 73 ∷ 52 ∷ 83 ∷ [];
 }
 
 -- 010001010 <tszh> 1 <tszl:2> <imm3> 00 1110 <Zn:5> <Zd:5>; tszh:tszl not 000
 abbrev pub uqrshrnb : Row
 uqrshrnb = record {
   layout = fix 9 0b010001010 ∷ var 1 ∷ fix 1 0b1 ∷ var 2 ∷ var 3 ∷ fix 2 0b00 ∷ fix 4 0b1110 ∷ var 5 ∷ var 5 ∷ [];
-  features = λ f. hasFeature f Sve2 || hasFeature f Sme;
+  features = Sve2 ∷ Sme ∷ [];
   condition = λ xs. not (eqb (narrowTsz xs) 0);
   reading = readUqrshrnb;
+  -- UQRSHRNB
+  name = λ xs. 85 ∷ 81 ∷ 82 ∷ 83 ∷ 72 ∷ 82 ∷ 78 ∷ 66 ∷ [];
 }
 
 abbrev pub rows : List Row
 rows = pext1 ∷ pext2 ∷ dup ∷ luti4c ∷ luti4s ∷ uqrshrnb ∷ []
 
--- the row of an instruction's form
+-- the row of an instruction's form, and its place in the table, from 0
 abbrev pub rowOf : Instruction → Row
 rowOf (Pext1 size imm2 counter pd) = pext1
 rowOf (Pext2 size i1 counter pd) = pext2
@@ -84,6 +98,14 @@ rowOf (Luti4c size i1 zn zd) = luti4c
 rowOf (Luti4s size i1 zn zd) = luti4s
 rowOf (Uqrshrnb size shift zn zd) = uqrshrnb
 
+abbrev pub placeOf : Instruction → ℕ
+placeOf (Pext1 size imm2 counter pd) = 0
+placeOf (Pext2 size i1 counter pd) = 1
+placeOf (Dup size offset index pg pn pd) = 2
+placeOf (Luti4c size i1 zn zd) = 3
+placeOf (Luti4s size i1 zn zd) = 4
+placeOf (Uqrshrnb size shift zn zd) = 5
+
 -- the row's layout, feature and field condition all match the word
 abbrev pub rowMatches : Row → ℕ → ℕ → Bool
-rowMatches r f w = matches (r .layout) w && r .features f && r .condition (fieldsOf (r .layout) w)
+rowMatches r f w = matches (r .layout) w && hasAny f (r .features) && r .condition (fieldsOf (r .layout) w)

@@ -1,4 +1,8 @@
-// Layouts, instructions, and what decode and encode mean: the only place that knows a word's bits. Its code is `decoder` and `encoder`.
+// Layouts, instructions, and what decode and encode mean: the only place that knows a word's bits. `decoder` and `encoder` go by it.
+pub mod table;
+
+ghost use mathlib.Core.Path.{_≡_};
+ghost use Rattle.encoding.specs.Rows.{placeOf};
 ghost use Rattle.encoding.specs.Claims.{Claims};
 use setting::Answer;
 
@@ -53,6 +57,20 @@ pub enum Decoded {
 pub struct Encoded {
     pub answer: Answer,
     pub word: u32,
+}
+
+// The place of an instruction's row in the table.
+pub fn place(instruction: Instruction) -> usize
+    ensures { λ r. ⌜ r ≡ placeOf instruction ⌝ }
+{
+    match instruction {
+        Instruction::Pext1 { .. } => 0,
+        Instruction::Pext2 { .. } => 1,
+        Instruction::Dup { .. } => 2,
+        Instruction::Luti4c { .. } => 3,
+        Instruction::Luti4s { .. } => 4,
+        Instruction::Uqrshrnb { .. } => 5,
+    }
 }
 
 // The theorems about these definitions. It does nothing: its promise has the check demand their proofs.

@@ -12,6 +12,7 @@ ghost use Rattle.lookup.specs.Calls.{luti4File};
 ghost use Rattle.narrow.specs.Calls.{narrowFile};
 ghost use Rattle.machine.specs.Done.{PredicateWord, VectorWord, TablelessWord, HasV, HasVS, HasST, HasWV, ifDone};
 use crate::access;
+use decoder::fields;
 use setting::Answer;
 use setting::Setting;
 
@@ -22,7 +23,7 @@ pub(crate) fn pext1(p: &mut [u8], setting: Setting, v: bool, s: bool, word: u32)
     if !access::open(setting.features, v, s) {
         return access::predicates(setting.features, v, s);
     }
-    let o = decoder::operands_at(0, word);
+    let o = fields::pext1(word);
     pext::pext(
         p,
         setting.vl,
@@ -41,7 +42,7 @@ pub(crate) fn pext2(p: &mut [u8], setting: Setting, v: bool, s: bool, word: u32)
     if !access::open(setting.features, v, s) {
         return access::predicates(setting.features, v, s);
     }
-    let o = decoder::operands_at(1, word);
+    let o = fields::pext2(word);
     pext::pext(
         p,
         setting.vl,
@@ -98,7 +99,7 @@ pub(crate) fn dup(
 ) -> Answer
     ensures { λ r. ⌜ PredicateWord 2 setting word (HasWV w12 w13 w14 w15 v) r (now (p .entry)) (now (p .exit)) ⌝ }
 {
-    let o = decoder::operands_of_dup(word);
+    let o = fields::dup(word);
     let w = index_register(w12, w13, w14, w15, o.index);
     duplicate(p, setting.vl, v, w, o.log, o.offset, o.pg, o.pn, o.pd)
 }
@@ -136,7 +137,7 @@ pub(crate) fn luti4c(
 ) -> Answer
     ensures { λ r. ⌜ VectorWord 3 setting word (HasST s t) r (now (zt .entry)) (now (z .entry)) (now (z .exit)) ⌝ }
 {
-    let o = decoder::operands_at(3, word);
+    let o = fields::luti4c(word);
     look_up(
         z,
         zt,
@@ -161,7 +162,7 @@ pub(crate) fn luti4s(
 ) -> Answer
     ensures { λ r. ⌜ VectorWord 4 setting word (HasST s t) r (now (zt .entry)) (now (z .entry)) (now (z .exit)) ⌝ }
 {
-    let o = decoder::operands_at(4, word);
+    let o = fields::luti4s(word);
     look_up(
         z,
         zt,
@@ -191,7 +192,7 @@ fn narrowed(z: &mut [u8], vl: u32, v: bool, size: u32, shift: u32, zn: u32, zd: 
 pub(crate) fn uqrshrnb(z: &mut [u8], setting: Setting, v: bool, word: u32) -> Answer
     ensures { λ r. ⌜ TablelessWord 5 setting word (HasV v) r (now (z .entry)) (now (z .exit)) ⌝ }
 {
-    let o = decoder::operands_at(5, word);
+    let o = fields::uqrshrnb(word);
     narrowed(
         z,
         setting.vl,

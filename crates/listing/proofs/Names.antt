@@ -1,22 +1,29 @@
--- A word's name is one of seven: a form's place is below 6, by cases on what is read.
-use Prim.Native.Nat.{ℕ, _<_}
-use lib.Dec.{lit<}
+-- A word's name is the one at its form's place, or at the place of no row: a column of the table at an instruction's place is its row's.
+use mathlib.Core.Path.{_≡_, refl}
+use Prim.Native.Nat.{ℕ, _≤_}
+use native.Mathlib.Omega.{arith}
+use lib.ListN.{length}
 use Rattle.setting.specs.Numbers.{Outcome, accept, refuse}
+use Rattle.encoding.specs.Instructions.{rawOf}
+use Rattle.encoding.specs.Rows.{Row, rows}
 use Rattle.encoding.specs.Forms.{placeIn}
 use Rattle.encoding.specs.Decode.{decodeOf}
 use Rattle.encoding.specs.declared.Instruction.{Instruction}
-use Rattle.encoding.specs.declared.Instruction.the-variants.{Pext1, Pext2, Dup, Luti4c, Luti4s, Uqrshrnb}
-use Rattle.listing.specs.Name.{allOn, nameIndex}
+use Rattle.encoding.proofs.Round.{column-at-place, place-lt}
+use Rattle.listing.specs.Name.{allOn, undefined, nameIn, nameOf}
+use Rattle.listing.specs.Tables.{nameAt}
 
-place-lt : (o : Outcome Instruction) → placeIn o < 7
-place-lt (accept (Pext1 size imm2 counter pd)) = lit< tt
-place-lt (accept (Pext2 size i1 counter pd)) = lit< tt
-place-lt (accept (Dup size offset index pg pn pd)) = lit< tt
-place-lt (accept (Luti4c size i1 zn zd)) = lit< tt
-place-lt (accept (Luti4s size i1 zn zd)) = lit< tt
-place-lt (accept (Uqrshrnb size shift zn zd)) = lit< tt
-place-lt (refuse n) = lit< tt
+name-in : (o : Outcome Instruction) → nameAt (placeIn o) ≡ nameIn o
+name-in (accept i) = column-at-place (λ r. r .name (rawOf i)) undefined i
+name-in (refuse n) = refl
 
-pub name-lt : (w : ℕ) → nameIndex w < 7
-unfolding nameIndex
-name-lt w = place-lt (decodeOf allOn w)
+place-le : (o : Outcome Instruction) → placeIn o ≤ length rows
+place-le (accept i) = omega (arith, place-lt i)
+place-le (refuse n) = omega arith
+
+pub name-is : (w : ℕ) → nameAt (placeIn (decodeOf allOn w)) ≡ nameOf w
+unfolding nameOf
+name-is w = name-in (decodeOf allOn w)
+
+pub name-le : (w : ℕ) → placeIn (decodeOf allOn w) ≤ length rows
+name-le w = place-le (decodeOf allOn w)

@@ -5,7 +5,7 @@ use Prim.Native.Nat.{ℕ, _≤_}
 use native.Mathlib.Omega.{arith}
 use lib.ListN.{length, getD, drop, length-append}
 use Rattle.listing.specs.Text.{hexDigits}
-use Rattle.listing.specs.Name.{nameIndex}
+use Rattle.listing.specs.Name.{nameOf}
 use Rattle.listing.specs.Lines.{nameLine, wordOf, lineOf, linesOf}
 use Rattle.listing.specs.Buffer.{Wrote}
 use Rattle.element.proofs.Spelled.{spelled}
@@ -13,7 +13,7 @@ use Rattle.element.proofs.Spelled.{spelled}
 abbrev pub quadWord : List ℕ → ℕ
 quadWord q = wordOf (getD q 0 0) (getD q 1 0) (getD q 2 0) (getD q 3 0)
 
-pub line-text : (q : List ℕ) {w i : ℕ} → length q ≡ 4 → w ≡ quadWord q → i ≡ nameIndex w → linesOf q ≡ hexDigits 8 w ++ nameLine i
+pub line-text : (q : List ℕ) {w : ℕ} {name : List ℕ} → length q ≡ 4 → w ≡ quadWord q → name ≡ nameOf w → linesOf q ≡ hexDigits 8 w ++ nameLine name
 unfolding linesOf lineOf
 line-text q l ew ei = ap linesOf (spelled 4 q l) ∙ append-nil (lineOf (quadWord q)) ∙ rw (ei, ew)
 
@@ -24,5 +24,5 @@ digits-first out w e = record { count = refl; whole = rw e }
 pub line-long : (q : List ℕ) → length q ≡ 4 → 8 ≤ length (linesOf q)
 unfolding hexDigits
 line-long q l =
-    let n = nameLine (nameIndex (quadWord q)) in
+    let n = nameLine (nameOf (quadWord q)) in
     omega (arith, length-append (hexDigits 8 (quadWord q)) n, ap length (line-text q l refl refl))

@@ -2,7 +2,7 @@
 use mathlib.Core.Path.{_≡_, refl, ap, _∙_}
 use mathlib.Core.Bool.{Bool, true, false, _&&_}
 use mathlib.Core.List.{List, [], _∷_}
-use Prim.Native.Nat.{ℕ, _+_, _-_, _*_, _/_, _%_, _≤_, _<_}
+use Prim.Native.Nat.{ℕ, suc, _+_, _-_, _*_, _/_, _%_, _≤_, _<_}
 use native.Mathlib.Omega.{arith}
 use lib.Dec.{T, eqb, ltb, eqb→eq, ltb→lt}
 use lib.ListN.{length, getD, take, drop}
@@ -11,7 +11,8 @@ use Rattle.element.proofs.Below.{both, below}
 use Rattle.listing.specs.Text.{glyphOf}
 use Rattle.listing.specs.Lines.{nameLine}
 use Rattle.listing.specs.Buffer.{Begins, Wrote}
-use Rattle.listing.specs.Tables.{Pairs, Tails}
+use Rattle.encoding.specs.Rows.{rows}
+use Rattle.listing.specs.Tables.{nameAt, Pairs, Tails}
 use Rattle.listing.proofs.Begins.{begins-over}
 
 abbrev pub highs : List ℕ → ℕ → Bool
@@ -50,38 +51,38 @@ same-eq (a ∷ s) (b ∷ t) h =
     cc
 
 abbrev pub counts : List ℕ → ℕ → Bool
-counts lengths i = eqb (getD lengths i 0) (length (nameLine i))
+counts lengths i = eqb (getD lengths i 0) (length (nameLine (nameAt i)))
 
 abbrev pub starts : List ℕ → List ℕ → ℕ → Bool
-starts rows lengths i = same (take (getD lengths i 0) (take 11 (drop (16 * i) rows))) (nameLine i)
+starts names lengths i = same (take (getD lengths i 0) (take 11 (drop (16 * i) names))) (nameLine (nameAt i))
 
 abbrev pub longs : List ℕ → ℕ → Bool
 longs lengths i = ltb 4 (getD lengths i 0)
 
-pub tails-right : (rows lengths : List ℕ)
-    → length rows ≡ 112
-    → T (all (counts lengths) 7)
-    → T (all (starts rows lengths) 7)
-    → T (all (longs lengths) 7)
-    → Tails rows lengths
-tails-right rows lengths e c s l =
+pub tails-right : (names lengths : List ℕ)
+    → length names ≡ 16 * suc (length rows)
+    → T (all (counts lengths) (suc (length rows)))
+    → T (all (starts names lengths) (suc (length rows)))
+    → T (all (longs lengths) (suc (length rows)))
+    → Tails names lengths
+tails-right names lengths e c s l =
     record {
       size = e;
       row =
           λ i h.
           record {
-            count = eqb→eq (getD lengths i 0) (length (nameLine i)) (below (counts lengths) 7 c i h);
-            start = same-eq _ (nameLine i) (below (starts rows lengths) 7 s i h);
+            count = eqb→eq (getD lengths i 0) (length (nameLine (nameAt i))) (below (counts lengths) (suc (length rows)) c i (omega arith));
+            start = same-eq _ (nameLine (nameAt i)) (below (starts names lengths) (suc (length rows)) s i (omega arith));
           };
-      least = λ i h. ltb→lt 4 (getD lengths i 0) (below (longs lengths) 7 l i h);
+      least = λ i h. ltb→lt 4 (getD lengths i 0) (below (longs lengths) (suc (length rows)) l i (omega arith));
     }
 
 -- the row at i, as a function meets it that lends the part from 16 * i to 16 * i + 11
-pub row-begins : (i : ℕ) {rows lengths out after : List ℕ} {k : ℕ}
-    → Tails rows lengths
-    → i < 7
-    → Wrote (take (16 * i + 11 - 16 * i) (drop (16 * i) rows)) out after k
-    → (Begins (nameLine i) after (getD lengths i 0)) × (5 ≤ getD lengths i 0)
+pub row-begins : (i : ℕ) {names lengths out after : List ℕ} {k : ℕ}
+    → Tails names lengths
+    → i ≤ length rows
+    → Wrote (take (16 * i + 11 - 16 * i) (drop (16 * i) names)) out after k
+    → (Begins (nameLine (nameAt i)) after (getD lengths i 0)) × (5 ≤ getD lengths i 0)
 row-begins i {out = out} t h w =
     let e : 16 * i + 11 - 16 * i ≡ 11 = omega arith in
     (rw (w .whole, e) (begins-over out (t .row i h)), t .least i h)

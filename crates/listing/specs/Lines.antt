@@ -1,16 +1,15 @@
 -- Document 01, "The lister": a line for each record of four bytes, and one for the bytes left over.
 use Prim.Native.Nat.{ℕ, _+_, _*_}
 use mathlib.Core.List.{List, [], _∷_, _++_}
-use lib.ListN.{getD}
-use Rattle.listing.specs.Text.{hexDigits, names}
-use Rattle.listing.specs.Name.{nameIndex}
+use Rattle.listing.specs.Text.{hexDigits}
+use Rattle.listing.specs.Name.{nameOf}
 
--- a space, the name at i, the end of the line
-abbrev pub nameLine : ℕ → List ℕ
-nameLine i = 32 ∷ getD names i [] ++ 10 ∷ []
+-- a space, a name, the end of the line
+abbrev pub nameLine : List ℕ → List ℕ
+nameLine name = 32 ∷ name ++ 10 ∷ []
 
 unfoldable pub lineOf : ℕ → List ℕ
-lineOf w = hexDigits 8 w ++ nameLine (nameIndex w)
+lineOf w = hexDigits 8 w ++ nameLine (nameOf w)
 
 -- SHORT, a space, the number
 abbrev pub shortLine : ℕ → List ℕ

@@ -1,4 +1,4 @@
--- Document 01, "The lister": the hex digits and the names, in ASCII.
+-- Document 01, "The lister": the hex digits, in ASCII.
 use Prim.Native.Nat.{ℕ, zero, suc, _/_, _%_, _^_}
 use mathlib.Core.List.{List, [], _∷_}
 use lib.ListN.{getD}
@@ -14,15 +14,3 @@ glyphOf d = getD glyphs d 0
 unfoldable pub hexDigits : ℕ → ℕ → List ℕ
 hexDigits zero w = []
 hexDigits (suc n) w = glyphOf (w / 16 ^ n % 16) ∷ hexDigits n w
-
--- PEXT1, PEXT2, DUP, LUTI4C, LUTI4S, UQRSHRNB, UNDEFINED
-abbrev pub names : List (List ℕ)
-names =
-    (80 ∷ 69 ∷ 88 ∷ 84 ∷ 49 ∷ [])
-    ∷ (80 ∷ 69 ∷ 88 ∷ 84 ∷ 50 ∷ [])
-    ∷ (68 ∷ 85 ∷ 80 ∷ [])
-    ∷ (76 ∷ 85 ∷ 84 ∷ 73 ∷ 52 ∷ 67 ∷ [])
-    ∷ (76 ∷ 85 ∷ 84 ∷ 73 ∷ 52 ∷ 83 ∷ [])
-    ∷ (85 ∷ 81 ∷ 82 ∷ 83 ∷ 72 ∷ 82 ∷ 78 ∷ 66 ∷ [])
-    ∷ (85 ∷ 78 ∷ 68 ∷ 69 ∷ 70 ∷ 73 ∷ 78 ∷ 69 ∷ 68 ∷ [])
-    ∷ []

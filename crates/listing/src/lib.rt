@@ -3,12 +3,18 @@ ghost use mathlib.Core.Path.{_≡_};
 ghost use Prim.Native.Nat.{_*_, _/_, _%_, _≤_, _<_, min};
 ghost use lib.ListN.{length, take};
 ghost use Rattle.listing.specs.Text.{glyphOf, hexDigits};
-ghost use Rattle.listing.specs.Name.{nameIndex};
+ghost use Rattle.encoding.specs.Rows.{rows};
+ghost use Rattle.listing.specs.Name.{nameOf};
 ghost use Rattle.listing.specs.Lines.{nameLine, wordOf, linesOf};
 ghost use Rattle.listing.specs.Buffer.{Wrote, Begins, Began, listedOf, outOf, carriedOf};
-ghost use Rattle.listing.specs.Tables.{Pairs, Tails};
+ghost use Rattle.listing.specs.Tables.{nameAt, Pairs, Tails};
 ghost use Rattle.listing.specs.Claims.{LinesAppend};
+use encoding::table;
+use encoding::table::ROWS;
 use setting::Setting;
+
+// A name for each row, and one for no row.
+const COUNT: usize = ROWS + 1;
 
 // How many bytes of the input were listed, and how many bytes of text that gave.
 pub struct Listed {
@@ -16,9 +22,9 @@ pub struct Listed {
     pub written: usize,
 }
 
-// The place of the word's name in `names`.
+// The place of the word's name in the table.
 fn name_index(word: u32) -> usize
-    ensures { λ r. ⌜ (r ≡ nameIndex word) × (r < 7) ⌝ }
+    ensures { λ r. ⌜ (nameAt r ≡ nameOf word) × (r ≤ length rows) ⌝ }
 {
     decoder::form(
         Setting {
@@ -85,41 +91,47 @@ fn short(left: &[u8], out: &mut [u8]) -> usize
 }
 
 // The row of the name, all 11 bytes of it: a jump on i would be mispredicted.
-fn tail(rows: &[u8], lengths: &[usize; 7], i: usize, out: &mut [u8]) -> usize
-    requires { ⌜ (Tails (now rows) (now lengths)) × (i < 7) × (length (now out) ≡ 11) ⌝ }
-    ensures { λ r. ⌜ (Begins (nameLine i) (now (out .exit)) r) × (5 ≤ r) ⌝ }
+fn tail(names: &[u8], lengths: &[usize; COUNT], i: usize, out: &mut [u8]) -> usize
+    requires { ⌜ (Tails (now names) (now lengths)) × (i ≤ length rows) × (length (now out) ≡ 11) ⌝ }
+    ensures { λ r. ⌜ (Begins (nameLine (nameAt i)) (now (out .exit)) r) × (5 ≤ r) ⌝ }
 {
     let at = 16 * i;
     let end = at + 11;
-    put(&rows[at..end], out);
+    put(&names[at..end], out);
     lengths[i]
 }
 
 // The line of one record, and behind it up to six bytes of no meaning.
 fn wide_line(
     pairs: &[u8; 512],
-    rows: &[u8],
-    lengths: &[usize; 7],
+    names: &[u8],
+    lengths: &[usize; COUNT],
     quad: &[u8],
     out: &mut [u8],
 ) -> usize
-    requires { ⌜ (Pairs (now pairs)) × (Tails (now rows) (now lengths)) × (length (now quad) ≡ 4) × (length (now out) ≡ 19) ⌝ }
+    requires { ⌜ (Pairs (now pairs)) × (Tails (now names) (now lengths)) × (length (now quad) ≡ 4) × (length (now out) ≡ 19) ⌝ }
     ensures { λ r. ⌜ (Begins (linesOf (now (quad .entry))) (now (out .exit)) r) × (13 ≤ r) ⌝ }
 {
     let w = word(quad[0], quad[1], quad[2], quad[3]);
     hex(pairs, w, &mut out[..8]);
     let i = name_index(w);
-    let n = tail(rows, lengths, i, &mut out[8..19]);
+    let n = tail(names, lengths, i, &mut out[8..19]);
     8 + n
 }
 
 // The same, and nothing behind it: the rest of out stays.
-fn line(pairs: &[u8; 512], rows: &[u8], lengths: &[usize; 7], quad: &[u8], out: &mut [u8]) -> usize
-    requires { ⌜ (Pairs (now pairs)) × (Tails (now rows) (now lengths)) × (length (now quad) ≡ 4) × (length (now out) ≡ 19) ⌝ }
+fn line(
+    pairs: &[u8; 512],
+    names: &[u8],
+    lengths: &[usize; COUNT],
+    quad: &[u8],
+    out: &mut [u8],
+) -> usize
+    requires { ⌜ (Pairs (now pairs)) × (Tails (now names) (now lengths)) × (length (now quad) ≡ 4) × (length (now out) ≡ 19) ⌝ }
     ensures { λ r. ⌜ Wrote (linesOf (now (quad .entry))) (now (out .entry)) (now (out .exit)) r ⌝ }
 {
     let mut text = [0u8; 19];
-    let n = wide_line(pairs, rows, lengths, quad, &mut text);
+    let n = wide_line(pairs, names, lengths, quad, &mut text);
     put(&text[..n], out)
 }
 
@@ -127,13 +139,13 @@ fn line(pairs: &[u8; 512], rows: &[u8], lengths: &[usize; 7], quad: &[u8], out: 
 // those of the one before.
 fn wide_lines(
     pairs: &[u8; 512],
-    rows: &[u8],
-    lengths: &[usize; 7],
+    names: &[u8],
+    lengths: &[usize; COUNT],
     input: &[u8],
     out: &mut [u8],
     n: usize,
 ) -> usize
-    requires { ⌜ (Pairs (now pairs)) × (Tails (now rows) (now lengths)) × (4 * n ≤ length (now input)) × (19 * n ≤ length (now out)) ⌝ }
+    requires { ⌜ (Pairs (now pairs)) × (Tails (now names) (now lengths)) × (4 * n ≤ length (now input)) × (19 * n ≤ length (now out)) ⌝ }
     ensures { λ r. ⌜ (Began (linesOf (take (4 * n) (now (input .entry)))) (now (out .entry)) (now (out .exit)) r) × (r ≤ 19 * n) ⌝ }
 {
     let mut i = 0;
@@ -142,7 +154,7 @@ fn wide_lines(
     while i < n {
         let next = from + 4;
         let end = at + 19;
-        at += wide_line(pairs, rows, lengths, &input[from..next], &mut out[at..end]);
+        at += wide_line(pairs, names, lengths, &input[from..next], &mut out[at..end]);
         from = next;
         i += 1;
     }
@@ -166,15 +178,13 @@ fn records(input: &[u8], out: &mut [u8], n: usize) -> usize
         a0a1a2a3a4a5a6a7a8a9aaabacadaeafb0b1b2b3b4b5b6b7b8b9babbbcbdbebf\
         c0c1c2c3c4c5c6c7c8c9cacbcccdcecfd0d1d2d3d4d5d6d7d8d9dadbdcdddedf\
         e0e1e2e3e4e5e6e7e8e9eaebecedeeeff0f1f2f3f4f5f6f7f8f9fafbfcfdfeff";
-    // What follows the digits, in rows of 16; and how much of each row.
-    let rows =
-        b" PEXT1\n......... PEXT2\n......... DUP\n........... LUTI4C\n........ LUTI4S\n........ UQRSHRNB\n...... UNDEFINED\n.....";
-    let lengths = [7, 7, 5, 8, 8, 10, 11];
+    let names = &table::NAMES;
+    let lengths = &table::NAME_LENGTHS;
     let from = 4 * (n - 1);
     let next = 4 * n;
-    let at = wide_lines(pairs, rows, &lengths, input, out, n - 1);
+    let at = wide_lines(pairs, names, lengths, input, out, n - 1);
     let end = at + 19;
-    let more = line(pairs, rows, &lengths, &input[from..next], &mut out[at..end]);
+    let more = line(pairs, names, lengths, &input[from..next], &mut out[at..end]);
     at + more
 }
 

@@ -32,7 +32,7 @@ use Rattle.machine.proofs.Operations.{pext1-done, pext2-done, dup-done,
 first-at : (s : Setting) (w k : ℕ) (o : Outcome Instruction) → k ≡ placeFirst rows (s .features) w → readAt rows k w ≡ o → firstOf rows (s .features) w ≡ o
 first-at s w k o e r = first-is-read rows (s .features) w ∙ ap (λ (j : ℕ). readAt rows j w) (sym e) ∙ r
 
-pub no-row : (s : Setting) (w k : ℕ) (m : Machine) → Known k s w m → 6 ≤ k → _≡_ {A = Step} (record { number = 3; left = m }) (stepOf s w m)
+pub no-row : (s : Setting) (w k : ℕ) (m : Machine) → Known k s w m → length rows ≤ k → _≡_ {A = Step} (record { number = 3; left = m }) (stepOf s w m)
 no-row s w k m h l = step-undefined s w m (h .checked .allowed) (h .checked .files) (first-at s w k (refuse 3) (h .place) (read-past rows k w l))
 
 -- ---- on one file or the other, done or refused

@@ -8,8 +8,9 @@ use Rattle.order.specs.Banks.{Register, sameRegister}
 use Rattle.order.specs.Touch.{holds, meet, conflicting}
 use Rattle.machine.specs.Step.{reads, writes}
 use Rattle.stretch.specs.Conflict.{conflict}
-use Rattle.stretch.specs.Bits.{startOf, bitOf, bitsOf, touchOf, shares, clashes}
-use Rattle.stretch.proofs.Shared.{shares-or, shares-none, or-shares, powers-share}
+use Rattle.element.specs.Bits.{shares}
+use Rattle.stretch.specs.Bits.{startOf, bitOf, bitsOf, touchOf, clashes}
+use Rattle.element.proofs.Shared.{shares-or, shares-none, or-shares, powers-share}
 use Rattle.stretch.proofs.Known.{Known, AllKnown, own-bit, known-word}
 
 -- a register's bit is among a list's bits exactly when the list holds the register

@@ -3,7 +3,6 @@ pub mod Passed
 pub mod Orders
 pub mod Copies
 pub mod Permissions
-pub mod Shared
 pub mod Known
 pub mod Clashes
 pub mod Rows

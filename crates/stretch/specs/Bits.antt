@@ -1,10 +1,10 @@
 -- What a word touches as the code has it: a bit for each register, Z0 to Z31, P0 to P15, ZT0 and W12 to W15 from the lowest.
-use mathlib.Core.Bool.{Bool, not, _||_}
+use mathlib.Core.Bool.{Bool, _||_}
 use mathlib.Core.List.{List, [], _∷_}
 use Prim.Native.Nat.{ℕ, _+_, _^_}
-use lib.Dec.{eqb}
 use lib.ListN.{getD}
-use lib.Bits.{bitAnd, bitOr}
+use lib.Bits.{bitOr}
+use Rattle.element.specs.Bits.{shares}
 use Rattle.setting.specs.Numbers.{Outcome, accept, refuse, numberOf}
 use Rattle.setting.specs.declared.Setting.{Setting}
 use Rattle.order.specs.Banks.{Register}
@@ -49,10 +49,6 @@ readingOf s w = touchIn (decodeOf s w)
 abbrev pub readingAs : Reading → Outcome Touch
 readingAs (Touches t) = accept t
 readingAs (Refused a) = refuse (numberOf a)
-
--- a bit in common
-abbrev pub shares : ℕ → ℕ → Bool
-shares a b = not (eqb (bitAnd a b) 0)
 
 -- one writes a register that the other reads or writes
 abbrev pub clashes : Touch → Touch → Bool

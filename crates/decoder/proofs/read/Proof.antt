@@ -1,11 +1,8 @@
 -- `read` meets its contract: in each arm the row is known, and its fields are the instruction's.
-use mathlib.Core.Path.{sym, ap, _∙_}
+use mathlib.Core.Path.{sym, _∙_}
 use native.Mathlib.Omega.{arith}
-use Rattle.setting.specs.Numbers.{accept}
 use Rattle.encoding.specs.Rows.{rows}
-use Rattle.encoding.specs.declared.Instruction.the-variants.{Pext1, Pext2, Luti4c, Luti4s, Uqrshrnb}
 use Rattle.encoding.proofs.Choice.{read-past}
-use Rattle.decoder.specs.declared.Operands.{Operands}
 use borrow.Author.Needs.{needs}
 use Rattle.decoder.proofs.read.Statement.{statement}
 use Rattle.decoder.proofs.read.Tie as tie
@@ -47,22 +44,22 @@ uqrshrnb-requires-2 : tie.Need-uqrshrnb-requires-2
 uqrshrnb-requires-2 c κs = search needs
 
 returns : tie.Need-returns
-returns c = rw (c .before .before .match .keys1) (c .pext12 .ensures ∙ ap (λ (o : Operands). accept (Pext1 (o .size) (o .immediate) (o .source) (o .destination))) (c .before .pext1 .ensures))
+returns c = rw (c .before .before .match .keys1) (c .pext12 .ensures ∙ c .before .pext1 .ensures .0)
 
 returns-2 : tie.Need-returns-2
-returns-2 c = rw (c .before .before .match .keys2) (c .pext22 .ensures ∙ ap (λ (o : Operands). accept (Pext2 (o .size) (o .immediate) (o .source) (o .destination))) (c .before .pext2 .ensures))
+returns-2 c = rw (c .before .before .match .keys2) (c .pext22 .ensures ∙ c .before .pext2 .ensures .0)
 
 returns-3 : tie.Need-returns-3
 returns-3 c = rw (c .before .before .match .keys3) (c .dup2 .ensures ∙ c .before .dup .ensures)
 
 returns-4 : tie.Need-returns-4
-returns-4 c = rw (c .before .before .match .keys4) (c .luti4c2 .ensures ∙ ap (λ (o : Operands). accept (Luti4c (o .size) (o .immediate) (o .source) (o .destination))) (c .before .luti4c .ensures))
+returns-4 c = rw (c .before .before .match .keys4) (c .luti4c2 .ensures ∙ c .before .luti4c .ensures .0)
 
 returns-5 : tie.Need-returns-5
-returns-5 c = rw (c .before .before .match .keys5) (c .luti4s2 .ensures ∙ ap (λ (o : Operands). accept (Luti4s (o .size) (o .immediate) (o .source) (o .destination))) (c .before .luti4s .ensures))
+returns-5 c = rw (c .before .before .match .keys5) (c .luti4s2 .ensures ∙ c .before .luti4s .ensures .0)
 
 returns-6 : tie.Need-returns-6
-returns-6 c = rw (c .before .before .match .keys6) (c .uqrshrnb2 .ensures ∙ ap (λ (o : Operands). accept (Uqrshrnb (o .size) (o .immediate) (o .source) (o .destination))) (c .before .uqrshrnb .ensures))
+returns-6 c = rw (c .before .before .match .keys6) (c .uqrshrnb2 .ensures ∙ c .before .uqrshrnb .ensures .0)
 
 returns-7 : tie.Need-returns-7
 returns-7 c = sym (read-past rows (c .before .args .row) _ (omega arith))

@@ -1,7 +1,7 @@
 -- `encode` meets its contract: each return is the case of the definition that its tests say.
 use mathlib.Core.Path.{_∙_}
 use Rattle.element.proofs.Tests.{said-no, said-yes}
-use Rattle.encoder.proofs.Cases.{encode-not-allowed, encode-out-of-range, encode-undefined, encode-word}
+use Rattle.encoder.proofs.Cases.{encode-not-allowed, encode-out-of-range, encode-undefined, encode-word, its-features}
 use borrow.Author.Needs.{needs}
 use Rattle.encoder.proofs.encode.Statement.{statement}
 use Rattle.encoder.proofs.encode.Tie as tie
@@ -24,6 +24,9 @@ refused-requires-2 c κs = search needs
 returns-2 : tie.Need-returns-2
 returns-2 c = c .refused2 .ensures ∙ encode-out-of-range _ _ (said-yes (c .before .before .before .before .allowed .ensures) (c .before .before .before .if1 .left)) (said-no (c .before .before .in-range .ensures) (c .before .if2 .taken))
 
+place-requires : tie.Need-place-requires
+place-requires c κs = search needs
+
 available-requires : tie.Need-available-requires
 available-requires c κs = search needs
 
@@ -31,13 +34,13 @@ refused-requires-3 : tie.Need-refused-requires-3
 refused-requires-3 c κs = search needs
 
 returns-3 : tie.Need-returns-3
-returns-3 c = c .refused3 .ensures ∙ encode-undefined _ _ (said-yes (c .before .before .before .before .before .before .allowed .ensures) (c .before .before .before .before .before .if1 .left)) (said-yes (c .before .before .before .before .in-range .ensures) (c .before .before .before .if2 .left)) (said-no (c .before .before .available .ensures) (c .before .if3 .taken))
+returns-3 c = c .refused3 .ensures ∙ encode-undefined _ _ (said-yes (c .before .before .before .before .before .before .before .allowed .ensures) (c .before .before .before .before .before .before .if1 .left)) (said-yes (c .before .before .before .before .before .in-range .ensures) (c .before .before .before .before .if2 .left)) (said-no (its-features (c .before .before .before .before .before .before .before .before .args .instruction) _ (c .before .before .before .place .ensures) (c .before .before .available .ensures)) (c .before .if3 .taken))
 
 word-of-requires : tie.Need-word-of-requires
-word-of-requires c κs = said-yes (c .before .before .before .in-range .ensures) (c .before .before .if2 .left)
+word-of-requires c κs = said-yes (c .before .before .before .before .in-range .ensures) (c .before .before .before .if2 .left)
 
 returns-4 : tie.Need-returns-4
-returns-4 c = encode-word _ _ (said-yes (c .before .before .before .before .before .before .allowed .ensures) (c .before .before .before .before .before .if1 .left)) (said-yes (c .before .before .before .before .in-range .ensures) (c .before .before .before .if2 .left)) (said-yes (c .before .before .available .ensures) (c .before .if3 .left)) (c .word-of .ensures)
+returns-4 c = encode-word _ _ (said-yes (c .before .before .before .before .before .before .before .allowed .ensures) (c .before .before .before .before .before .before .if1 .left)) (said-yes (c .before .before .before .before .before .in-range .ensures) (c .before .before .before .before .if2 .left)) (said-yes (its-features (c .before .before .before .before .before .before .before .before .args .instruction) _ (c .before .before .before .place .ensures) (c .before .before .available .ensures)) (c .before .if3 .left)) (c .word-of .ensures)
 
 pub encode-spec : {M : Type 1} → statement M
 encode-spec =
@@ -49,6 +52,7 @@ encode-spec =
     in-range-requires
     refused-requires-2
     returns-2
+    place-requires
     available-requires
     refused-requires-3
     returns-3

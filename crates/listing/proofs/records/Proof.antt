@@ -91,7 +91,7 @@ same-length c = search needs
 returns-2 : tie.Need-returns-2
 returns-2 c =
     let l = c .before .before in
-    let w = l .before .before .before .before .before .before .before in
+    let w = l .before .before .before .before .before .before in
     let i = w .before .before .before .before .before .before in
     let s = i .before .before .before in
     last (s .args .input .now) (s .args .out .now) (s .args .n) (i .if1 .left) (s .pre .0) (s .pre .1)

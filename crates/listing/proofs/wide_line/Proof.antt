@@ -7,7 +7,7 @@ use lib.ListN.{length, drop, length-append, length-take, length-drop}
 use borrow.Rule.Slice.PartMut.{putMid}
 use borrow.Author.Needs.{needs}
 use Rattle.listing.specs.Text.{hexDigits}
-use Rattle.listing.specs.Name.{nameIndex}
+use Rattle.listing.specs.Name.{nameOf}
 use Rattle.listing.specs.Lines.{nameLine, linesOf}
 use Rattle.listing.specs.Buffer.{Begins}
 use Rattle.listing.proofs.Begins.{wrote-begins, begins-within, begins-more}
@@ -15,13 +15,13 @@ use Rattle.listing.proofs.Parts.{quadWord, line-text, digits-first}
 use Rattle.listing.proofs.wide_line.Statement.{statement}
 use Rattle.listing.proofs.wide_line.Tie as tie
 
-line-begins : (q out : List ℕ) {hs ys : List ℕ} {w i r : ℕ}
+line-begins : (q out : List ℕ) {hs ys name : List ℕ} {w r : ℕ}
     → length q ≡ 4
     → length out ≡ 19
     → w ≡ quadWord q
     → hs ≡ hexDigits 8 w
-    → i ≡ nameIndex w
-    → Begins (nameLine i) ys r
+    → name ≡ nameOf w
+    → Begins (nameLine name) ys r
     → Begins (linesOf q) (putMid 8 11 (hs ++ drop 8 out) ys) (8 + r)
 unfolding hexDigits
 line-begins q out {hs} {w = w} l m ew eh ei v =

@@ -20,10 +20,10 @@ record Listing (input out₀ : List ℕ) (n : ℕ) (out : List ℕ) (i from at :
   text : Began (linesOf (take from input)) out₀ out at
 
 abbrev Inv-loop : tie.InvT-loop
-Inv-loop pairs rows lengths input out₀ n i₀ from₀ at₀ out i from at = Listing input out₀ n out i from at
+Inv-loop pairs names lengths input out₀ n i₀ from₀ at₀ out i from at = Listing input out₀ n out i from at
 
 abbrev μ-loop : tie.MeasureT-loop
-μ-loop pairs rows lengths input out₀ n i₀ from₀ at₀ out i from at = n - i
+μ-loop pairs names lengths input out₀ n i₀ from₀ at₀ out i from at = n - i
 
 loop-holds : tie.Need-loop-holds Inv-loop μ-loop
 unfolding linesOf

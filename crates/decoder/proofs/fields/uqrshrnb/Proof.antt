@@ -35,7 +35,7 @@ sub-immediate c =
     omega (arith, c .before .narrow-size .ensures, shift-bits-le (r .result) (w / 0x10000 % 8) t m)
 
 returns : tie.Need-returns
-returns c = rw (c .log-of .ensures, c .before .narrow-size .ensures, c .before .before .narrow-tsz .ensures, div-one (c .before .before .before .args .word))
+returns c = (rw (c .before .narrow-size .ensures, c .before .before .narrow-tsz .ensures, div-one (c .before .before .before .args .word)), c .log-of .ensures)
 
 pub uqrshrnb-spec : {M : Type 1} → statement M
 uqrshrnb-spec =

@@ -1,106 +1,56 @@
--- `row_of` meets its contract: each test is its row's, as the calls answer.
-use Rattle.decoder.proofs.Cases.{place-by-tests}
+-- `row_of` meets its contract: before each turn `place` is the place of the first row that matches from k on.
+use mathlib.Core.Path.{_≡_, refl, ap, _∙_}
+use Prim.Native.Nat.{ℕ, suc, _+_, _-_, _<_, _≤_}
+use native.Mathlib.Nat.{zero-add}
+use native.Mathlib.Omega.{arith}
+use lib.ListN.{length, drop}
+use Rattle.encoding.specs.Rows.{rows}
+use Rattle.encoding.specs.Forms.{placeFirst}
+use Rattle.decoder.proofs.Search.{turned}
 use borrow.Author.Needs.{needs}
 use Rattle.decoder.proofs.layouts.row_of.Statement.{statement}
 use Rattle.decoder.proofs.layouts.row_of.Tie as tie
 
-has-layout-requires : tie.Need-has-layout-requires
+abbrev Inv-loop : tie.InvT-loop
+Inv-loop features word place₀ k₀ place k = (k ≤ length rows) × (place ≡ k + placeFirst (drop k rows) features word)
+
+abbrev μ-loop : tie.MeasureT-loop
+μ-loop features word place₀ k₀ place k = k
+
+loop-holds : tie.Need-loop-holds Inv-loop μ-loop
+unfolding placeFirst
+loop-holds c = (omega arith, refl)
+
+sub-k : tie.Need-sub-k Inv-loop μ-loop
+sub-k c = omega arith
+
+has-layout-requires : tie.Need-has-layout-requires Inv-loop μ-loop
 has-layout-requires c κs = search needs
 
-for-pext-requires : tie.Need-for-pext-requires
-for-pext-requires c κs = search needs
+rest-requires : tie.Need-rest-requires Inv-loop μ-loop
+rest-requires c κs = search needs
 
-has-layout-requires-2 : tie.Need-has-layout-requires-2
-has-layout-requires-2 c κs = search needs
-
-for-pext-requires-2 : tie.Need-for-pext-requires-2
-for-pext-requires-2 c κs = search needs
-
-has-layout-requires-3 : tie.Need-has-layout-requires-3
-has-layout-requires-3 c κs = search needs
-
-for-dup-requires : tie.Need-for-dup-requires
-for-dup-requires c κs = search needs
-
-has-layout-requires-4 : tie.Need-has-layout-requires-4
-has-layout-requires-4 c κs = search needs
-
-for-luti4c-requires : tie.Need-for-luti4c-requires
-for-luti4c-requires c κs = search needs
-
-has-layout-requires-5 : tie.Need-has-layout-requires-5
-has-layout-requires-5 c κs = search needs
-
-for-luti4s-requires : tie.Need-for-luti4s-requires
-for-luti4s-requires c κs = search needs
-
-has-layout-requires-6 : tie.Need-has-layout-requires-6
-has-layout-requires-6 c κs = search needs
-
-for-uqrshrnb-requires : tie.Need-for-uqrshrnb-requires
-for-uqrshrnb-requires c κs = search needs
-
-earlier-requires : tie.Need-earlier-requires
+earlier-requires : tie.Need-earlier-requires Inv-loop μ-loop
 earlier-requires c κs = search needs
 
-earlier-requires-2 : tie.Need-earlier-requires-2
-earlier-requires-2 c κs = search needs
+loop-less : tie.Need-loop-less Inv-loop μ-loop
+loop-less c = omega arith
 
-earlier-requires-3 : tie.Need-earlier-requires-3
-earlier-requires-3 c κs = search needs
+loop-again : tie.Need-loop-again Inv-loop μ-loop
+loop-again c =
+    let l = c .before .before .before .before in
+    let k = l .loop .k - 1 in
+    let h : k < length rows = omega arith in
+    let e : l .loop .k ≡ suc k = omega arith in
+    (omega arith, turned k (l .loop .k) _ _ h e (l .loop .inv .1) (c .before .before .has-layout .ensures) (c .before .rest .ensures) (c .earlier .ensures))
 
-earlier-requires-4 : tie.Need-earlier-requires-4
-earlier-requires-4 c κs = search needs
-
-earlier-requires-5 : tie.Need-earlier-requires-5
-earlier-requires-5 c κs = search needs
-
-earlier-requires-6 : tie.Need-earlier-requires-6
-earlier-requires-6 c κs = search needs
-
-returns : tie.Need-returns
-returns c = rw (
-  c .earlier6 .ensures,
-  c .before .earlier5 .ensures,
-  c .before .before .earlier4 .ensures,
-  c .before .before .before .earlier3 .ensures,
-  c .before .before .before .before .earlier2 .ensures,
-  c .before .before .before .before .before .earlier .ensures,
-  c .before .before .before .before .before .before .for-uqrshrnb .ensures,
-  c .before .before .before .before .before .before .before .has-layout6 .ensures,
-  c .before .before .before .before .before .before .before .before .for-luti4s .ensures,
-  c .before .before .before .before .before .before .before .before .before .has-layout5 .ensures,
-  c .before .before .before .before .before .before .before .before .before .before .for-luti4c .ensures,
-  c .before .before .before .before .before .before .before .before .before .before .before .has-layout4 .ensures,
-  c .before .before .before .before .before .before .before .before .before .before .before .before .for-dup .ensures,
-  c .before .before .before .before .before .before .before .before .before .before .before .before .before .has-layout3 .ensures,
-  c .before .before .before .before .before .before .before .before .before .before .before .before .before .before .for-pext2 .ensures,
-  c .before .before .before .before .before .before .before .before .before .before .before .before .before .before .before .has-layout2 .ensures,
-  c .before .before .before .before .before .before .before .before .before .before .before .before .before .before .before .before .for-pext .ensures,
-  c .before .before .before .before .before .before .before .before .before .before .before .before .before .before .before .before .before .has-layout .ensures,
-)
-    (place-by-tests _ _)
+returns : tie.Need-returns Inv-loop μ-loop
+returns c =
+    let l = c .before .loop in
+    let a = c .before .before .args in
+    let z : l .k ≡ 0 = omega arith in
+    l .inv .1 ∙ ap (λ (n : ℕ). n + placeFirst (drop n rows) (a .features) (a .word)) z ∙ zero-add _
 
 pub row-of-spec : {M : Type 1} → statement M
 row-of-spec =
-    tie.close
-    (tie.spec
-    has-layout-requires
-    for-pext-requires
-    has-layout-requires-2
-    for-pext-requires-2
-    has-layout-requires-3
-    for-dup-requires
-    has-layout-requires-4
-    for-luti4c-requires
-    has-layout-requires-5
-    for-luti4s-requires
-    has-layout-requires-6
-    for-uqrshrnb-requires
-    earlier-requires
-    earlier-requires-2
-    earlier-requires-3
-    earlier-requires-4
-    earlier-requires-5
-    earlier-requires-6
-    returns)
+    tie.close (tie.spec Inv-loop μ-loop loop-holds sub-k has-layout-requires rest-requires earlier-requires loop-less loop-again returns)

@@ -7,13 +7,13 @@ use borrow.Author.Needs.{needs}
 use Rattle.interpreter.proofs.words.dup.Statement.{statement}
 use Rattle.interpreter.proofs.words.dup.Tie as tie
 
-operands-of-dup-requires : tie.Need-operands-of-dup-requires
-operands-of-dup-requires c κs = search needs
+dup-requires : tie.Need-dup-requires
+dup-requires c κs = search needs
 
 index-register-requires : tie.Need-index-register-requires
 index-register-requires c κs =
-    let e = c .operands-of-dup .ensures in
-    let i : c .operands-of-dup .result .index ≡ 12 + c .before .before .args .word / 0x10000 % 4 = cc in
+    let e = c .dup .ensures in
+    let i : c .dup .result .index ≡ 12 + c .before .before .args .word / 0x10000 % 4 = cc in
     (omega arith, omega arith)
 
 duplicate-requires : tie.Need-duplicate-requires
@@ -25,7 +25,7 @@ same-length c = search needs
 returns : tie.Need-returns
 returns c =
     let k = c .before .before .duplicate in
-    dup-word _ (c .before .before .before .before .before .before .before .args .word) (k .result) _ _ _ _ _ _ _ _ _ _ _ _ _ _ (k .ensures .0) (sym (c .before .before .before .before .before .operands-of-dup .ensures)) (c .before .before .before .before .index-register .ensures) (k .ensures .1)
+    dup-word _ (c .before .before .before .before .before .before .before .args .word) (k .result) _ _ _ _ _ _ _ _ _ _ _ _ _ _ (k .ensures .0) (sym (c .before .before .before .before .before .dup .ensures)) (c .before .before .before .before .index-register .ensures) (k .ensures .1)
 
 pub dup-spec : {M : Type 1} → statement M
-dup-spec = tie.close (tie.spec operands-of-dup-requires index-register-requires duplicate-requires same-length returns)
+dup-spec = tie.close (tie.spec dup-requires index-register-requires duplicate-requires same-length returns)

@@ -1,16 +1,16 @@
--- Whether two numbers share a bit: an OR shares what one of its parts shares, since AND goes through OR digit by digit; two powers of 2 share their bit where they are one.
+-- Whether two numbers share a bit: an OR shares what one of its parts shares, since AND goes through OR digit by digit; two powers of 2 share their bit where they are one, and a number shares a power's where it has that digit.
 use mathlib.Core.Path.{_≡_, refl, sym, _∙_, ap, ap₂}
 use mathlib.Core.Bool.{false, not, _||_}
-use Prim.Native.Nat.{ℕ, _+_, _*_, _/_, _%_, _^_, _<_, min, max}
-use native.Mathlib.Nat.{one-mul}
+use Prim.Native.Nat.{ℕ, zero, suc, _+_, _-_, _*_, _/_, _%_, _^_, _<_, min, max}
+use native.Mathlib.Nat.{zero-mul, one-mul}
 use native.Mathlib.Omega.{arith}
 use native.Mathlib.Decide.{ℕ-discrete, decLt}
 use lib.Dec.{eqb}
 use lib.Arith.{bin-ind}
-use lib.Pow.{pow-pos, pow-lt}
-use lib.Bits.{bitAnd, bitOr, and-step, or-step, and-comm, and-self, and-zero-r, and-shifted, or-add-and, and-le-r}
+use lib.Pow.{pow-add, pow-pos, pow-lt}
+use lib.Bits.{bitAnd, bitOr, and-step, or-step, and-comm, and-self, and-zero-r, and-shifted, and-high, or-add-and, and-le-r}
 use borrow.Author.Tests.{eq-eqb, ne-eqb}
-use Rattle.stretch.specs.Bits.{shares}
+use Rattle.element.specs.Bits.{shares}
 
 -- ---- AND through OR
 digits-through : (x y z : ℕ) → min (max x y) z ≡ max (min x z) (min y z)
@@ -75,3 +75,13 @@ powers-share m n = go (ℕ-discrete m n) (decLt m n)
     go (yes e) d = rw (e, and-self (2 ^ n), eq-eqb n n refl, ne-eqb (2 ^ n) 0 (λ z. omega (arith, pow-pos n)))
     go (no e) (yes l) = rw (ne-eqb m n e, and-comm (2 ^ m) (2 ^ n), apart m n l)
     go (no e) (no l) = rw (ne-eqb m n e, apart n m (omega arith))
+
+one-digit : (k x : ℕ) → x < 2 → not (eqb (x * 2 ^ k) 0) ≡ eqb x 1
+one-digit k zero h = rw (zero-mul (2 ^ k))
+one-digit k (suc zero) h = rw (one-mul (2 ^ k), ne-eqb (2 ^ k) 0 (λ z. omega (arith, pow-pos k)))
+one-digit k (suc (suc x)) h = absurd (omega arith)
+
+pub shares-power : (n k : ℕ) → shares n (2 ^ k) ≡ eqb (n / 2 ^ k % 2) 1
+shares-power n k =
+    let e : 2 ^ k ≡ 2 ^ (1 + k) - 2 ^ k = rw (pow-add 2 1 k) (omega arith) in
+    ap (λ (x : ℕ). not (eqb x 0)) (ap (bitAnd n) e ∙ and-high n 1 k) ∙ one-digit k (n / 2 ^ k % 2) (omega arith)

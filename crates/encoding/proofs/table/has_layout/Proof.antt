@@ -1,10 +1,10 @@
 -- `has_layout` meets its contract: the fixed bits tell whether the layout matches.
 use Prim.Native.Nat.{_^_, _<_}
 use native.Mathlib.Omega.{arith}
-use Rattle.decoder.proofs.Cases.{fixed-bits-tell}
+use Rattle.encoding.proofs.Columns.{fixed-bits-tell, no-layout}
 use borrow.Author.Needs.{needs}
-use Rattle.decoder.proofs.layouts.has_layout.Statement.{statement}
-use Rattle.decoder.proofs.layouts.has_layout.Tie as tie
+use Rattle.encoding.proofs.table.has_layout.Statement.{statement}
+use Rattle.encoding.proofs.table.has_layout.Tie as tie
 
 mul-result : tie.Need-mul-result
 mul-result c = search needs
@@ -19,8 +19,12 @@ array-read-result-2 : tie.Need-array-read-result-2
 array-read-result-2 c = search needs
 
 returns : tie.Need-returns
-returns c = let l : c .args .word < 2 ^ 32 = omega arith in fixed-bits-tell _ _ (c .pre) l
+returns c = let l : c .before .args .word < 2 ^ 32 = omega arith in fixed-bits-tell _ _ (c .if1 .taken) l
+
+returns-2 : tie.Need-returns-2
+returns-2 c = no-layout _ _ (c .if1 .left)
 
 pub has-layout-spec : {M : Type 1} → statement M
 has-layout-spec =
-    tie.close (tie.spec mul-result array-read-result mul-result-2 array-read-result-2 returns)
+    tie.close
+    (tie.spec mul-result array-read-result mul-result-2 array-read-result-2 returns returns-2)

@@ -1,0 +1,69 @@
+-- The code's table has the definition's columns: each by a test that is computed over the rows, and a law that says what one comparison of bits tells.
+use mathlib.Core.Path.{_≡_, refl, sym, ap, ap₂, _∙_}
+use mathlib.Core.Bool.{true, false, false≢true, _&&_, _||_}
+use mathlib.Core.List.{List, [], _∷_, map}
+use Prim.Native.Nat.{ℕ, _^_, _<_, _≤_}
+use lib.Dec.{T, eqb, eqb→eq}
+use lib.Bits.{bitAnd, bitOr}
+use lib.ListN.{length, getD, List·getD-map, List·getD-eq-default}
+use borrow.Author.Tests.{eq-eqb, ne-eqb, lt-ltb, le-ltb}
+use Rattle.setting.specs.Allowed.{bitOf, hasFeature, hasAny}
+use Rattle.setting.specs.declared.Feature.{Feature}
+use Rattle.element.specs.Bits.{shares}
+use Rattle.element.proofs.Below.{below}
+use Rattle.element.proofs.Shared.{shares-none, or-shares, shares-power}
+use Rattle.encoding.specs.Layout.{Piece, width, matches, fixedOf}
+use Rattle.encoding.specs.Rows.{Row, rows}
+use Rattle.encoding.specs.Forms.{layoutAt, featuresAt, hasLayout}
+use Rattle.encoding.proofs.LayoutLaws.{sound, maskOf, matches-masked, masked-matches}
+use Rattle.encoding.proofs.Apart.{decide}
+
+-- ---- layouts
+abbrev pub layouts : List (List Piece)
+layouts = map (λ (r : Row). r .layout) rows
+
+abbrev pub masks : List ℕ
+masks = map maskOf layouts
+
+abbrev pub fixed : List ℕ
+fixed = map fixedOf layouts
+
+wide : (k : ℕ) → k < length rows → width (layoutAt k) ≡ 32
+wide k h = eqb→eq (width (layoutAt k)) 32 (below (λ j. eqb (width (layoutAt j)) 32) (length rows) tt k h)
+
+layout-sound : (k : ℕ) → k < length rows → T (sound (layoutAt k))
+layout-sound k h = below (λ j. sound (layoutAt j)) (length rows) tt k h
+
+pub fixed-at : (k : ℕ) → getD fixed k 0 ≡ fixedOf (layoutAt k)
+fixed-at k = List·getD-map fixedOf layouts k []
+
+-- comparing the fixed bits tells whether the layout matches
+pub fixed-bits-tell : (k w : ℕ) → k < length rows → w < 2 ^ 32 → eqb (bitAnd w (getD masks k 0)) (getD fixed k 0) ≡ hasLayout k w
+fixed-bits-tell k w h l =
+    let m : getD masks k 0 ≡ maskOf (layoutAt k) = List·getD-map maskOf layouts k [] in
+    let f = fixed-at k in
+    rw (lt-ltb k (length rows) h) (decide (matches (layoutAt k) w)
+    (λ e. eq-eqb (bitAnd w (getD masks k 0)) (getD fixed k 0) (ap (bitAnd w) m ∙ matches-masked (layoutAt k) (layout-sound k h) w e ∙ sym f) ∙ sym e)
+    (λ e. ne-eqb (bitAnd w (getD masks k 0)) (getD fixed k 0) (λ q. false≢true (sym e ∙ masked-matches (layoutAt k) w (rw (wide k h) l) (ap (bitAnd w) (sym m) ∙ q ∙ f))) ∙ sym e))
+
+pub no-layout : (k w : ℕ) → length rows ≤ k → false ≡ hasLayout k w
+no-layout k w h = rw (le-ltb k (length rows) h)
+
+-- ---- features
+abbrev featureBits : List Feature → ℕ
+featureBits [] = 0
+featureBits (x ∷ xs) = bitOr (2 ^ bitOf x) (featureBits xs)
+
+abbrev pub features : List ℕ
+features = map featureBits (map (λ (r : Row). r .features) rows)
+
+-- a bit in common is a feature of the list
+any-shares : (f : ℕ) (xs : List Feature) → shares f (featureBits xs) ≡ hasAny f xs
+any-shares f [] = shares-none f
+any-shares f (x ∷ xs) = or-shares f (2 ^ bitOf x) (featureBits xs) ∙ ap₂ _||_ (shares-power f (bitOf x)) (any-shares f xs)
+
+pub feature-bits-tell : (k f : ℕ) → shares f (getD features k 0) ≡ hasAny f (featuresAt k)
+feature-bits-tell k f = ap (shares f) (List·getD-map featureBits (map (λ (r : Row). r .features) rows) k []) ∙ any-shares f (featuresAt k)
+
+pub no-features : (k f : ℕ) → length rows ≤ k → false ≡ hasAny f (featuresAt k)
+no-features k f h = ap (hasAny f) (sym (List·getD-eq-default (map (λ (r : Row). r .features) rows) [] h))

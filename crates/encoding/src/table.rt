@@ -1,0 +1,66 @@
+// The table of layouts as the code has it, a column at a time, in document 01's order: the decoder, the encoder and the lister share it.
+ghost use mathlib.Core.Path.{_≡_};
+ghost use Rattle.setting.specs.Allowed.{hasAny};
+ghost use Rattle.encoding.specs.Layout.{fixedOf};
+ghost use Rattle.encoding.specs.Forms.{layoutAt, featuresAt, hasLayout};
+
+// The number of rows, and the place of no row.
+pub const ROWS: usize = 6;
+
+// The bits that each layout fixes, and what it fixes them to.
+const MASKS: [u32; ROWS] = [
+    0xff3ffc10,
+    0xff3ffe10,
+    0xff20c210,
+    0xfffecc03,
+    0xfffecc0c,
+    0xffa0fc00,
+];
+
+const FIXED: [u32; ROWS] = [
+    0x25207010,
+    0x25207410,
+    0x25204000,
+    0xc08a8000,
+    0xc09a8000,
+    0x45203800,
+];
+
+// The features of which one is enough, as bits of the feature number.
+const FEATURES: [u32; ROWS] = [0b01010, 0b01010, 0b00100, 0b01000, 0b10000, 0b00101];
+
+// The names, a row of 16 bytes for each and one for no row: as they follow a word's digits in a listing, and how long that is.
+pub const NAMES: [u8; 16 * (ROWS + 1)] =
+    *b" PEXT1\n......... PEXT2\n......... DUP\n........... LUTI4C\n........ LUTI4S\n........ UQRSHRNB\n...... UNDEFINED\n.....";
+
+pub const NAME_LENGTHS: [usize; ROWS + 1] = [7, 7, 5, 8, 8, 10, 11];
+
+// Whether the word has every fixed bit of the layout at a place of the table; no past its end.
+pub fn has_layout(place: usize, word: u32) -> bool
+    ensures { λ r. ⌜ r ≡ hasLayout place word ⌝ }
+{
+    if place < ROWS {
+        return word & MASKS[place] == FIXED[place];
+    }
+    false
+}
+
+// What the layout at a place fixes its bits to; 0 past the table's end.
+pub fn fixed_bits(place: usize) -> u32
+    ensures { λ r. ⌜ r ≡ fixedOf (layoutAt place) ⌝ }
+{
+    if place < ROWS {
+        return FIXED[place];
+    }
+    0
+}
+
+// Whether the feature number has a feature of the row at a place of the table; no past its end.
+pub fn available(place: usize, features: u32) -> bool
+    ensures { λ r. ⌜ r ≡ hasAny features (featuresAt place) ⌝ }
+{
+    if place < ROWS {
+        return features & FEATURES[place] != 0;
+    }
+    false
+}
