@@ -13,7 +13,7 @@ use Rattle.element.specs.Size.{pick}
 use Rattle.element.specs.Every.{all}
 use Rattle.element.proofs.Below.{both, below}
 use Rattle.encoding.specs.Layout.{Piece, fieldsOf, matches}
-use Rattle.encoding.specs.Rows.{Row, rows, rowMatches}
+use Rattle.encoding.specs.Rows.{Row, rows}
 use Rattle.encoding.specs.Forms.{layoutAt, hasLayout, placeFirst}
 use Rattle.encoding.specs.Claims.{noRow}
 use Rattle.encoding.proofs.Apart.{decide}

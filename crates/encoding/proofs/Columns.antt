@@ -1,13 +1,13 @@
 -- The code's table has the definition's columns: each by a test that is computed over the rows, and a law that says what one comparison of bits tells.
-use mathlib.Core.Path.{_≡_, refl, sym, ap, ap₂, _∙_}
-use mathlib.Core.Bool.{true, false, false≢true, _&&_, _||_}
+use mathlib.Core.Path.{_≡_, sym, ap, ap₂, _∙_}
+use mathlib.Core.Bool.{true, false, false≢true, _||_}
 use mathlib.Core.List.{List, [], _∷_, map}
 use Prim.Native.Nat.{ℕ, _^_, _<_, _≤_}
 use lib.Dec.{T, eqb, eqb→eq}
 use lib.Bits.{bitAnd, bitOr}
 use lib.ListN.{length, getD, List·getD-map, List·getD-eq-default}
 use borrow.Author.Tests.{eq-eqb, ne-eqb, lt-ltb, le-ltb}
-use Rattle.setting.specs.Allowed.{bitOf, hasFeature, hasAny}
+use Rattle.setting.specs.Allowed.{bitOf, hasAny}
 use Rattle.setting.specs.declared.Feature.{Feature}
 use Rattle.element.specs.Bits.{shares}
 use Rattle.element.proofs.Below.{below}

@@ -1,7 +1,7 @@
 -- The four claims: undefined exactly, one layout, decode after encode, encode after decode. From the laws of rows and the facts of each form's fields.
 use mathlib.Core.Path.{_≡_, refl, sym, ap, subst, _∙_}
 use mathlib.Core.Bool.{true, false, _&&_}
-use mathlib.Core.List.{List, [], map}
+use mathlib.Core.List.{List, map}
 use Prim.Native.Nat.{ℕ, suc, _^_, _<_}
 use native.Mathlib.Omega.{arith}
 use lib.Dec.{T, eqb, eqb→eq}
@@ -23,7 +23,7 @@ use Rattle.encoding.specs.declared.Instruction.{Instruction}
 use Rattle.encoding.specs.declared.Instruction.the-variants.{Pext1, Pext2, Dup, Luti4c, Luti4s, Uqrshrnb}
 use Rattle.encoding.proofs.LayoutLaws.{word-lt, fields-back, word-matches}
 use Rattle.encoding.proofs.Apart.{decide}
-use Rattle.encoding.proofs.Choice.{disjoint, matchesAt, none-first, first-is-read, place-is, at-most-one, refused-none, each-row, accepted-by}
+use Rattle.encoding.proofs.Choice.{disjoint, none-first, first-is-read, place-is, at-most-one, refused-none, each-row, accepted-by}
 use Rattle.encoding.proofs.InRange.{in-range-reads}
 use Rattle.encoding.proofs.WrittenBack.{RowWrites, pext1-writes, pext2-writes, dup-row-writes, luti4c-row-writes, luti4s-row-writes, uqrshrnb-row-writes}
 

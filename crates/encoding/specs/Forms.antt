@@ -7,7 +7,7 @@ use lib.ListN.{length, getD}
 use Rattle.setting.specs.Numbers.{Outcome, accept, refuse}
 use Rattle.setting.specs.declared.Feature.{Feature}
 use Rattle.element.specs.Size.{pick}
-use Rattle.encoding.specs.Layout.{Piece, matches, fixedOf}
+use Rattle.encoding.specs.Layout.{Piece, matches}
 use Rattle.encoding.specs.Rows.{Row, rows, rowMatches, placeOf}
 use Rattle.encoding.specs.declared.Instruction.{Instruction}
 

@@ -5,7 +5,7 @@ use mathlib.Core.List.{[], _∷_}
 use Prim.Native.Nat.{ℕ}
 use native.Mathlib.Omega.{arith}
 use Rattle.element.specs.Size.{pick}
-use Rattle.machine.specs.Step.{need, firstFailed}
+use Rattle.machine.specs.Needs.{need, firstFailed}
 
 -- V with SVE2p1, else S
 pub has-flag : (feature v s : Bool) {b : Bool} → b ≡ pick feature v s → not b ≡ false → 0 ≡ firstFailed (pick feature (need 4 v) (need 5 s) ∷ [])

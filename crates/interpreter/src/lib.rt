@@ -12,9 +12,10 @@ ghost use lib.ListN.{length};
 ghost use Rattle.setting.specs.Allowed.{allowedOf};
 ghost use Rattle.setting.specs.Numbers.{numberOf};
 ghost use Rattle.order.specs.Steps.{steps};
-ghost use Rattle.machine.specs.Step.{need, firstFailed, refusalOf, execOf, stepOf, steppedAs};
+ghost use Rattle.machine.specs.Needs.{need, firstFailed};
+ghost use Rattle.machine.specs.Step.{refusalOf, execOf, stepOf, steppedAs};
 ghost use Rattle.machine.specs.Run.{runOf, ranAs};
-ghost use Rattle.machine.specs.Done.{Checked, movedBy, steppedBy, movedOn, wentAs};
+ghost use Rattle.machine.specs.Done.{Checked, steppedBy, movedOn, wentAs};
 use machine::Ran;
 use machine::Scalars;
 use machine::Stepped;
@@ -27,16 +28,6 @@ fn advance(scalars: Scalars) -> Scalars
     let mut next = scalars;
     next.pc = std::num::wrapping_add_u64(scalars.pc, 4);
     next
-}
-
-// PC moves where the word was done.
-fn moved_by(answer: Answer, scalars: Scalars) -> Scalars
-    ensures { λ r. ⌜ r ≡ movedBy (numberOf answer) scalars ⌝ }
-{
-    if setting::number(answer) != 0 {
-        return scalars;
-    }
-    advance(scalars)
 }
 
 // After so many words that were done.
@@ -107,39 +98,6 @@ fn step_in_run(
     }
 }
 
-// The same for a word alone: with one caller each, the compiler puts the one into the loop and the other into `step`.
-fn step_alone(
-    z: &mut [u8],
-    p: &mut [u8],
-    zt: &[u8],
-    scalars: Scalars,
-    setting: Setting,
-    word: u32,
-) -> Answer
-    requires { ⌜ Checked setting (machine (now z) (now p) (now zt) scalars) ⌝ }
-    ensures { λ r. ⌜ steppedBy r (now (z .exit)) (now (p .exit)) (now (zt .entry)) scalars ≡ stepOf setting word (machine (now (z .entry)) (now (p .entry)) (now (zt .entry)) scalars) ⌝ }
-{
-    let row = decoder::row(setting.features, word);
-    match row {
-        0 => words::pext1(p, setting, scalars.v, scalars.s, word),
-        1 => words::pext2(p, setting, scalars.v, scalars.s, word),
-        2 => words::dup(
-            p,
-            setting,
-            scalars.w12,
-            scalars.w13,
-            scalars.w14,
-            scalars.w15,
-            scalars.v,
-            word,
-        ),
-        3 => words::luti4c(z, zt, setting, scalars.s, scalars.t, word),
-        4 => words::luti4s(z, zt, setting, scalars.s, scalars.t, word),
-        5 => words::uqrshrnb(z, setting, scalars.v, word),
-        _ => Answer::Undefined,
-    }
-}
-
 // The words from the first, up to one that is refused; how many were done is left in `done`.
 fn checked_run(
     z: &mut [u8],
@@ -168,32 +126,8 @@ fn checked_run(
     Answer::Done
 }
 
-// One word. ZT0 is lent for words to come that write it; today it stays.
-pub fn step(
-    z: &mut [u8],
-    p: &mut [u8],
-    zt: &mut [u8],
-    scalars: Scalars,
-    setting: Setting,
-    word: u32,
-) -> Stepped
-    ensures { λ r. ⌜ steppedAs r (now (z .exit)) (now (p .exit)) (now (zt .exit)) ≡ stepOf setting word (machine (now (z .entry)) (now (p .entry)) (now (zt .entry)) scalars) ⌝ }
-{
-    let refused = before_any(setting, z.len(), p.len(), zt.len(), 1);
-    if setting::number(refused) != 0 {
-        return Stepped {
-            answer: refused,
-            scalars,
-        };
-    }
-    let answer = step_alone(z, p, zt, scalars, setting, word);
-    Stepped {
-        answer,
-        scalars: moved_by(answer, scalars),
-    }
-}
-
-// A stretch of at most 256 words, stepped one after the other; it stops before the first that is refused.
+// A stretch of at most 256 words, stepped one after the other; it stops before the first that is refused. ZT0 is lent for words
+// to come that write it; today it stays.
 pub fn run(
     z: &mut [u8],
     p: &mut [u8],
@@ -219,4 +153,22 @@ pub fn run(
         done: done as usize,
         scalars: moved_on(scalars, done),
     }
+}
+
+// One word, as a run of it.
+pub fn step(
+    z: &mut [u8],
+    p: &mut [u8],
+    zt: &mut [u8],
+    scalars: Scalars,
+    setting: Setting,
+    word: u32,
+) -> Stepped
+    ensures { λ r. ⌜ steppedAs r (now (z .exit)) (now (p .exit)) (now (zt .exit)) ≡ stepOf setting word (machine (now (z .entry)) (now (p .entry)) (now (zt .entry)) scalars) ⌝ }
+{
+    let words = [word];
+    let ran = run(z, p, zt, scalars, setting, &words);
+    let answer = ran.answer;
+    let scalars = ran.scalars;
+    Stepped { answer, scalars }
 }

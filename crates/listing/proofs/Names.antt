@@ -5,7 +5,7 @@ use native.Mathlib.Omega.{arith}
 use lib.ListN.{length}
 use Rattle.setting.specs.Numbers.{Outcome, accept, refuse}
 use Rattle.encoding.specs.Instructions.{rawOf}
-use Rattle.encoding.specs.Rows.{Row, rows}
+use Rattle.encoding.specs.Rows.{rows}
 use Rattle.encoding.specs.Forms.{placeIn}
 use Rattle.encoding.specs.Decode.{decodeOf}
 use Rattle.encoding.specs.declared.Instruction.{Instruction}

@@ -1,6 +1,6 @@
--- A step answers 0 to 6 and a run one of these or 8: no need has a greater number, by a computed test of each instruction's; a word that is not read has 1 or 3; a run answers as a word or as what comes before any.
+-- A step answers 0 to 6 and a run one of these or 8: no need of an instruction has a greater number; a word that is not read has 1 or 3; a run answers as a word or as what comes before any.
 use mathlib.Core.Path.{_≡_, refl, sym, subst}
-use mathlib.Core.Bool.{Bool, true, false, _&&_}
+use mathlib.Core.Bool.{Bool, true, false}
 use mathlib.Core.Logic.{_⊎_, inl, inr}
 use mathlib.Core.List.{List, [], _∷_}
 use Prim.Native.Nat.{ℕ, zero, suc, _≤_}
@@ -8,23 +8,22 @@ use native.Mathlib.Omega.{arith}
 use lib.Dec.{T, leb}
 use lib.ListN.{length}
 use borrow.Author.Tests.{leb-true}
-use Rattle.setting.specs.Allowed.{hasFeature, allowedOf}
+use Rattle.setting.specs.Allowed.{allowedOf}
 use Rattle.setting.specs.declared.Setting.{Setting}
-use Rattle.setting.specs.declared.Feature.the-variants.{Sve2p1}
 use Rattle.element.specs.Size.{pick}
 use Rattle.element.proofs.Below.{both, is-true}
 use Rattle.order.specs.Steps.{Ended, steps}
 use Rattle.encoding.specs.Layout.{fieldsOf}
 use Rattle.encoding.specs.Rows.{Row, rows, rowMatches}
 use Rattle.encoding.specs.Decode.{firstOf, decodeOf}
-use Rattle.encoding.specs.declared.Instruction.{Instruction}
-use Rattle.encoding.specs.declared.Instruction.the-variants.{Pext1, Pext2, Dup, Luti4c, Luti4s, Uqrshrnb}
 use Rattle.encoding.proofs.Apart.{decide}
-use Rattle.machine.specs.Machine.{Machine}
-use Rattle.machine.specs.Step.{Need, need, sized, firstFailed, needsOf, verdict, refusalOf, execOf, after, stepOf}
+use Rattle.machine.specs.Machine.{Machine, Flags, flagsOf}
+use Rattle.machine.specs.Needs.{Need, firstFailed}
+use Rattle.machine.specs.Effects.{effectOf}
+use Rattle.machine.specs.Step.{sized, verdict, refusalOf, execOf, after, stepOf}
 use Rattle.machine.specs.Run.{refusedBefore, runOf}
 use Rattle.machine.specs.Claims.{StepAnswers, RunAnswers}
-use Rattle.machine.specs.declared.Scalars.{Scalars}
+use Rattle.machine.proofs.Effects.{atMostSix, fine}
 use Rattle.machine.proofs.Runs.{run-not-begun, run-begun}
 
 -- ---- needs with numbers of at most 6
@@ -32,40 +31,23 @@ either : (b : Bool) (x y : ℕ) → x ≤ 6 → y ≤ 6 → pick b x y ≤ 6
 either true x y h k = h
 either false x y h k = k
 
-abbrev small : List Need → Bool
-small [] = true
-small (n ∷ ns) = leb (n .number) 6 && small ns
-
-failed-small : (ns : List Need) → T (small ns) → firstFailed ns ≤ 6
+failed-small : (ns : List Need) → T (atMostSix ns) → firstFailed ns ≤ 6
 failed-small [] t = omega arith
 failed-small (n ∷ ns) t =
-    let p = both (leb (n .number) 6) (small ns) t in
+    let p = both (leb (n .number) 6) (atMostSix ns) t in
     either (n .holds) (firstFailed ns) (n .number) (failed-small ns (p .1)) (leb-true (n .number) 6 (is-true (leb (n .number) 6) (p .0)))
 
--- V or S, by a feature
-by-feature : (f : Bool) (c : Scalars) → T (small (pick f (need 4 (c .v)) (need 5 (c .s)) ∷ []))
-by-feature true c = tt
-by-feature false c = tt
-
-all-small : (s : Setting) (i : Instruction) (c : Scalars) → T (small (needsOf s i c))
-all-small s (Pext1 size imm2 counter pd) c = by-feature (hasFeature (s .features) Sve2p1) c
-all-small s (Pext2 size i1 counter pd) c = by-feature (hasFeature (s .features) Sve2p1) c
-all-small s (Dup size offset index pg pn pd) c = tt
-all-small s (Luti4c size i1 zn zd) c = tt
-all-small s (Luti4s size i1 zn zd) c = tt
-all-small s (Uqrshrnb size shift zn zd) c = tt
-
 -- ---- a word
-first-small : (s : Setting) (c : Scalars) (rs : List Row) (w : ℕ) → verdict s c (firstOf rs (s .features) w) ≤ 6
-first-small s c [] w = omega arith
-first-small s c (r ∷ rs) w =
+first-small : (s : Setting) (f : Flags) (rs : List Row) (w : ℕ) → verdict s f (firstOf rs (s .features) w) ≤ 6
+first-small s f [] w = omega arith
+first-small s f (r ∷ rs) w =
     let i = r .reading (fieldsOf (r .layout) w) in
-    decide (rowMatches r (s .features) w) (λ y. rw y (failed-small (needsOf s i c) (all-small s i c))) (λ n. rw n (first-small s c rs w))
+    decide (rowMatches r (s .features) w) (λ y. rw y (failed-small (effectOf i .needs s f) (fine i .refused-small s f))) (λ n. rw n (first-small s f rs w))
 
 refusal-small : (s : Setting) (w : ℕ) (m : Machine) → refusalOf s w m ≤ 6
 unfolding refusalOf decodeOf
 refusal-small s w m =
-    decide (allowedOf s) (λ a. rw a (either (sized m) _ 2 (first-small s (m .scalars) rows w) (omega arith))) (λ a. rw a (omega arith))
+    decide (allowedOf s) (λ a. rw a (either (sized m) _ 2 (first-small s (flagsOf m) rows w) (omega arith))) (λ a. rw a (omega arith))
 
 pub step-answers : StepAnswers
 unfolding stepOf

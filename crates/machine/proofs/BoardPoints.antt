@@ -18,7 +18,6 @@ use Rattle.pext.proofs.BoardPoints.{pext-points}
 use Rattle.dup.specs.Dup.{indexOf, valueOf, dupBit, dupOf}
 use Rattle.dup.specs.Points.{dupPoints}
 use Rattle.dup.proofs.BoardPoints.{dup-points}
-use Rattle.machine.specs.Gives.{givesOf}
 use Rattle.machine.specs.Points.{elementPoints, starred}
 
 every-append : (As Bs : List (Type 0)) → Every As → Every Bs → Every (As ++ Bs)
@@ -26,7 +25,7 @@ every-append [] Bs x y = y
 every-append (A ∷ As) Bs x y = (x .0, every-append As Bs (x .1) y)
 
 element-points : Every elementPoints
-unfolding decodeOf allowedOf sizeOf trailingZeros givesOf dupOf dupBit valueOf indexOf row fill bytes octet gather field
+unfolding decodeOf allowedOf sizeOf trailingZeros dupOf dupBit valueOf indexOf row fill bytes octet gather field
 element-points = (refl, (refl, (refl, tt)))
 
 pub starred-points : Every starred

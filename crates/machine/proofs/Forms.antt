@@ -21,8 +21,10 @@ use Rattle.pext.specs.Pext.{pextLeaves}
 use Rattle.dup.specs.Dup.{dupLeaves}
 use Rattle.lookup.specs.Calls.{luti4File}
 use Rattle.narrow.specs.Calls.{narrowFile}
-use Rattle.machine.specs.Machine.{Machine, machine}
-use Rattle.machine.specs.Step.{Step, need, firstFailed, needsOf, stepOf, stepAs}
+use Rattle.machine.specs.Machine.{Machine, machine, flagsOf}
+use Rattle.machine.specs.Needs.{need, firstFailed}
+use Rattle.machine.specs.Effects.{effectOf}
+use Rattle.machine.specs.Step.{Step, stepOf, stepAs}
 use Rattle.machine.specs.Done.{Ready, Known, PredicateWord, VectorWord, TablelessWord, HasV, HasVS, HasST, HasWV, ifDone, doneOf, executedOf, movedBy}
 use Rattle.machine.specs.declared.Scalars.{Scalars}
 use Rattle.machine.proofs.Steps.{refused-for, done-for, step-executes, step-ready, step-undefined}
@@ -46,12 +48,12 @@ module _ (s : Setting) (w k : ℕ) (i : Instruction) (read : readAt rows k w ≡
   executes : executedOf s i (machine z p zt c) ≡ stepOf s w (machine z p zt c)
   executes = step-executes s w (machine z p zt c) (known .checked .allowed) (known .checked .files) i is-first
 
-  pub on-predicates : (p′ done : List ℕ) (n : ℕ) → n ≡ firstFailed (needsOf s i c) → p′ ≡ ifDone n done p → machine z done zt c ≡ doneOf (s .vl) i (machine z p zt c)
+  pub on-predicates : (p′ done : List ℕ) (n : ℕ) → n ≡ firstFailed (effectOf i .needs s (flagsOf (machine z p zt c))) → p′ ≡ ifDone n done p → machine z done zt c ≡ doneOf (s .vl) i (machine z p zt c)
       → stepAs n z p′ zt (movedBy n c) ≡ stepOf s w (machine z p zt c)
   on-predicates p′ done zero a q d = rw q (done-for s i z p zt c z done a d ∙ executes)
   on-predicates p′ done (suc n) a q d = rw q (refused-for s i z p zt c (suc n) a (λ e. omega arith) ∙ executes)
 
-  pub on-vectors : (z′ done : List ℕ) (n : ℕ) → n ≡ firstFailed (needsOf s i c) → z′ ≡ ifDone n done z → machine done p zt c ≡ doneOf (s .vl) i (machine z p zt c)
+  pub on-vectors : (z′ done : List ℕ) (n : ℕ) → n ≡ firstFailed (effectOf i .needs s (flagsOf (machine z p zt c))) → z′ ≡ ifDone n done z → machine done p zt c ≡ doneOf (s .vl) i (machine z p zt c)
       → stepAs n z′ p zt (movedBy n c) ≡ stepOf s w (machine z p zt c)
   on-vectors z′ done zero a q d = rw q (done-for s i z p zt c done p a d ∙ executes)
   on-vectors z′ done (suc n) a q d = rw q (refused-for s i z p zt c (suc n) a (λ e. omega arith) ∙ executes)

@@ -1,7 +1,9 @@
 pub mod Operations
 pub mod Steps
 pub mod Forms
+pub mod Effects
 pub mod Runs
+pub mod OneWord
 pub mod Answers
 pub mod Moves
 pub mod Registers

@@ -1,4 +1,4 @@
--- A step and a run move PC once for each word done, and no other scalar: by the touch table no word writes an index register, and words follow by induction.
+-- A step and a run move PC once for each word done, and no other scalar: no word writes an index register, and words follow by induction.
 use mathlib.Core.Path.{_≡_, refl, sym, ap, _∙_}
 use mathlib.Core.List.{List, [], _∷_}
 use Prim.Native.Nat.{ℕ, zero, suc}
@@ -8,10 +8,7 @@ use Rattle.order.specs.Steps.{Ended, steps}
 use Rattle.order.specs.Touch.{perform, puts}
 use Rattle.encoding.specs.Decode.{decodeOf}
 use Rattle.encoding.specs.declared.Instruction.{Instruction}
-use Rattle.encoding.specs.declared.Instruction.the-variants.{Pext1, Pext2, Dup, Luti4c, Luti4s, Uqrshrnb}
-use Rattle.machine.specs.Machine.{Machine, scalarsOf, put, next, advanced}
-use Rattle.machine.specs.Touched.{writesOf}
-use Rattle.machine.specs.Gives.{givesOf}
+use Rattle.machine.specs.Machine.{Machine, scalarsOf, next, advanced}
 use Rattle.machine.specs.Step.{Step, refusalOf, execOf, after, stepOf, stepAs, steppedAs}
 use Rattle.machine.specs.Run.{refusedBefore, begun, runOf, runAs, ranAs}
 use Rattle.machine.specs.Done.{movedOn}
@@ -19,23 +16,14 @@ use Rattle.machine.specs.Claims.{RunMovesPc}
 use Rattle.machine.specs.declared.Scalars.{Scalars}
 use Rattle.machine.specs.declared.Stepped.{Stepped}
 use Rattle.machine.specs.declared.Ran.{Ran}
-
--- new contents of what an instruction writes leave the scalars
-contents-only : (vl : ℕ) (i : Instruction) (cs : List (List ℕ)) (m : Machine) → puts (put vl) (writesOf i) (givesOf vl i cs) m .scalars ≡ m .scalars
-unfolding puts put givesOf
-contents-only vl (Pext1 size imm2 counter pd) cs m = refl
-contents-only vl (Pext2 size i1 counter pd) cs m = refl
-contents-only vl (Dup size offset index pg pn pd) cs m = refl
-contents-only vl (Luti4c size i1 zn zd) cs m = refl
-contents-only vl (Luti4s size i1 zn zd) cs m = refl
-contents-only vl (Uqrshrnb size shift zn zd) cs m = refl
+use Rattle.machine.proofs.Effects.{fine}
 
 word-moves : (s : Setting) (w : ℕ) (m : Machine) → execOf s w m .scalars ≡ advanced (m .scalars)
 unfolding execOf perform next puts
 word-moves s w m = go (decodeOf s w) refl
   where
     go : (o : Outcome Instruction) → decodeOf s w ≡ o → execOf s w m .scalars ≡ advanced (m .scalars)
-    go (accept i) e = rw e (ap advanced (contents-only (s .vl) i _ m))
+    go (accept i) e = rw e (ap advanced (fine i .contents-only (s .vl) _ m))
     go (refuse n) e = rw e
 
 one-more : (s : Setting) (c : Scalars) (w n : ℕ) (m : Machine) → m .scalars ≡ movedOn n c → execOf s w m .scalars ≡ movedOn (suc n) c

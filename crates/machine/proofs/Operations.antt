@@ -26,7 +26,6 @@ use Rattle.narrow.specs.Narrow.{uqrshrnbFile}
 use Rattle.lookup.specs.Calls.{luti4Ready, luti4File}
 use Rattle.narrow.specs.Calls.{narrowReady, narrowFile}
 use Rattle.machine.specs.Machine.{machine, get, put}
-use Rattle.machine.specs.Gives.{givesOf}
 use Rattle.machine.specs.Done.{Ready, doneOf}
 use Rattle.machine.specs.declared.Scalars.{Scalars}
 
@@ -92,7 +91,7 @@ whole-table t h = take-all 64 t (omega arith)
 module _ (z p p′ zt : List ℕ) (s : Scalars) (vl : ℕ) where
   pub pext1-done : (size imm2 counter pd : ℕ) → Ready (length z) (length p) (length zt) vl (Pext1 size imm2 counter pd) → p′ ≡ pextLeaves vl size imm2 1 counter pd p
       → machine z p′ zt s ≡ doneOf vl (Pext1 size imm2 counter pd) (machine z p zt s)
-  unfolding doneOf gets puts get put givesOf pextLeaves pextSlots
+  unfolding doneOf gets puts get put pextLeaves pextSlots
   pext1-done size imm2 counter pd r e =
       let g = pext-ranges 4 size imm2 counter pd (r .range) in
       let d : (pd + 0) % 16 ≡ pd = omega (arith, g .pd-lt) in
@@ -100,7 +99,7 @@ module _ (z p p′ zt : List ℕ) (s : Scalars) (vl : ℕ) where
 
   pub pext2-done : (size i1 counter pd : ℕ) → Ready (length z) (length p) (length zt) vl (Pext2 size i1 counter pd) → p′ ≡ pextLeaves vl size (2 * i1) 2 counter pd p
       → machine z p′ zt s ≡ doneOf vl (Pext2 size i1 counter pd) (machine z p zt s)
-  unfolding doneOf gets puts get put givesOf pextLeaves pextSlots
+  unfolding doneOf gets puts get put pextLeaves pextSlots
   pext2-done size i1 counter pd r e =
       let g = pext-ranges 2 size i1 counter pd (r .range) in
       let d : (pd + 0) % 16 ≡ pd = omega (arith, g .pd-lt) in
@@ -109,7 +108,7 @@ module _ (z p p′ zt : List ℕ) (s : Scalars) (vl : ℕ) where
   pub dup-done : (size offset index pg pn pd w : ℕ) → Ready (length z) (length p) (length zt) vl (Dup size offset index pg pn pd)
       → w ≡ getD (s .w12 ∷ s .w13 ∷ s .w14 ∷ s .w15 ∷ []) (index - 12) 0 → p′ ≡ dupLeaves vl size w offset pg pn pd p
       → machine z p′ zt s ≡ doneOf vl (Dup size offset index pg pn pd) (machine z p zt s)
-  unfolding doneOf gets puts get put givesOf dupLeaves
+  unfolding doneOf gets puts get put dupLeaves
   dup-done size offset index pg pn pd w r q e =
       let g = dup-ranges size offset index pg pn pd (r .range) in
       let k : index - 12 < 4 = omega (arith, g .index-ge, g .index-lt) in
@@ -118,15 +117,15 @@ module _ (z p p′ zt : List ℕ) (s : Scalars) (vl : ℕ) where
 module _ (z z′ p zt : List ℕ) (s : Scalars) (vl : ℕ) where
   pub uqrshrnb-done : (size shift zn zd : ℕ) → Ready (length z) (length p) (length zt) vl (Uqrshrnb size shift zn zd) → z′ ≡ narrowFile vl size shift zn zd z
       → machine z′ p zt s ≡ doneOf vl (Uqrshrnb size shift zn zd) (machine z p zt s)
-  unfolding doneOf gets puts get put givesOf narrowFile uqrshrnbFile
+  unfolding doneOf gets puts get put narrowFile uqrshrnbFile
   uqrshrnb-done size shift zn zd r e = rw (e, r .vectors, narrow-ready size shift zn zd vl (r .range) (r .length))
 
   pub luti4c-done : (size i1 zn zd : ℕ) → Ready (length z) (length p) (length zt) vl (Luti4c size i1 zn zd) → z′ ≡ luti4File vl size i1 zn zd 1 zt z
       → machine z′ p zt s ≡ doneOf vl (Luti4c size i1 zn zd) (machine z p zt s)
-  unfolding doneOf gets puts get put givesOf luti4File lutiFile slot
+  unfolding doneOf gets puts get put luti4File lutiFile slot
   luti4c-done size i1 zn zd r e = rw (e, r .vectors, r .table, luti4c-ready size i1 zn zd vl (r .range) (r .length), add-zero zd, whole-table zt (r .table))
 
   pub luti4s-done : (size i1 zn zd : ℕ) → Ready (length z) (length p) (length zt) vl (Luti4s size i1 zn zd) → z′ ≡ luti4File vl size i1 zn zd 4 zt z
       → machine z′ p zt s ≡ doneOf vl (Luti4s size i1 zn zd) (machine z p zt s)
-  unfolding doneOf gets puts get put givesOf luti4File lutiFile slot
+  unfolding doneOf gets puts get put luti4File lutiFile slot
   luti4s-done size i1 zn zd r e = rw (e, r .vectors, r .table, luti4s-ready size i1 zn zd vl (r .range) (r .length), add-zero zd, whole-table zt (r .table))

@@ -17,19 +17,21 @@ use Rattle.encoding.specs.declared.Instruction.{Instruction}
 use Rattle.element.proofs.Tests.{both-yes}
 use Rattle.encoding.proofs.Apart.{decide}
 use Rattle.encoding.proofs.Round.{read-in-range}
-use Rattle.machine.specs.Machine.{Machine, machine, advanced, next}
-use Rattle.machine.specs.Step.{Step, sized, need, firstFailed, needsOf, refusalOf, execOf, after, stepOf}
+use Rattle.machine.specs.Machine.{Machine, machine, advanced, next, flagsOf}
+use Rattle.machine.specs.Needs.{need, firstFailed}
+use Rattle.machine.specs.Effects.{effectOf}
+use Rattle.machine.specs.Step.{Step, sized, refusalOf, execOf, after, stepOf}
 use Rattle.machine.specs.Done.{Ready, Checked, doneOf, executed, executedOf, movedBy}
 use Rattle.machine.specs.declared.Scalars.{Scalars}
 
 -- ---- an instruction that was read
 module _ (s : Setting) (i : Instruction) (z p zt : List ℕ) (c : Scalars) where
-  pub refused-for : (n : ℕ) → n ≡ firstFailed (needsOf s i c) → (n ≡ 0 → ⊥) → _≡_ {A = Step} (record { number = n; left = machine z p zt (movedBy n c) }) (executedOf s i (machine z p zt c))
+  pub refused-for : (n : ℕ) → n ≡ firstFailed (effectOf i .needs s (flagsOf (machine z p zt c))) → (n ≡ 0 → ⊥) → _≡_ {A = Step} (record { number = n; left = machine z p zt (movedBy n c) }) (executedOf s i (machine z p zt c))
   unfolding executedOf
   refused-for zero e ne = absurd (ne refl)
   refused-for (suc k) e ne = ap (λ (n : ℕ). executed n (s .vl) i (machine z p zt c)) e
 
-  pub done-for : (z′ p′ : List ℕ) → 0 ≡ firstFailed (needsOf s i c) → machine z′ p′ zt c ≡ doneOf (s .vl) i (machine z p zt c)
+  pub done-for : (z′ p′ : List ℕ) → 0 ≡ firstFailed (effectOf i .needs s (flagsOf (machine z p zt c))) → machine z′ p′ zt c ≡ doneOf (s .vl) i (machine z p zt c)
       → _≡_ {A = Step} (record { number = 0; left = machine z′ p′ zt (advanced c) }) (executedOf s i (machine z p zt c))
   unfolding executedOf next
   done-for z′ p′ e q = ap (λ (x : Machine). record { number = 0; left = next x }) q ∙ ap (λ (n : ℕ). executed n (s .vl) i (machine z p zt c)) e
@@ -75,8 +77,8 @@ module _ (s : Setting) (w : ℕ) (m : Machine) where
       unfolding stepOf refusalOf executedOf
       step-executes i e =
           let r : decodeOf s w ≡ accept i = read-is (accept i) e in
-          let q : firstFailed (needsOf s i (m .scalars)) ≡ refusalOf s w m = rw (a, h, r) in
-          after-is i r (firstFailed (needsOf s i (m .scalars))) ∙ ap (λ (n : ℕ). after n s w m) q
+          let q : firstFailed (effectOf i .needs s (flagsOf m)) ≡ refusalOf s w m = rw (a, h, r) in
+          after-is i r (firstFailed (effectOf i .needs s (flagsOf m))) ∙ ap (λ (n : ℕ). after n s w m) q
 
       pub step-ready : (i : Instruction) → firstOf rows (s .features) w ≡ accept i → Ready (length (m .z)) (length (m .p)) (length (m .zt)) (s .vl) i
       unfolding allowedOf

@@ -1,7 +1,7 @@
--- What `claims` promises of the definitions: the numbers that a step and a run answer, the laws of the registers, what a run leaves of the scalars, and the starred cases.
+-- What `claims` promises of the definitions: the numbers that a step and a run answer, the run of one word, the laws of the registers, what a run leaves of the scalars, and the starred cases.
 use mathlib.Core.Path.{_≡_}
 use mathlib.Core.Logic.{_⊎_}
-use mathlib.Core.List.{List}
+use mathlib.Core.List.{List, [], _∷_}
 use Prim.Native.Nat.{ℕ, _≤_}
 use Rattle.setting.specs.declared.Setting.{Setting}
 use Rattle.element.specs.Every.{Every}
@@ -9,7 +9,7 @@ use Rattle.order.specs.Banks.{sameRegister}
 use Rattle.order.specs.Touch.{Registers}
 use Rattle.machine.specs.Machine.{Machine, get, put, next, flagsOf}
 use Rattle.machine.specs.Step.{stepOf}
-use Rattle.machine.specs.Run.{runOf}
+use Rattle.machine.specs.Run.{runOf, ranOnce}
 use Rattle.machine.specs.Done.{movedOn}
 use Rattle.machine.specs.Points.{starred}
 
@@ -20,6 +20,10 @@ StepAnswers = (s : Setting) (w : ℕ) (m : Machine) → stepOf s w m .number ≤
 -- and a run one of these or 8
 abbrev pub RunAnswers : Type 0
 RunAnswers = (s : Setting) (words : List ℕ) (m : Machine) → (runOf s words m .answer ≤ 6) ⊎ (runOf s words m .answer ≡ 8)
+
+-- the run of one word is the step
+abbrev pub RunOfOneWord : Type 0
+RunOfOneWord = (s : Setting) (w : ℕ) (m : Machine) → runOf s (w ∷ []) m ≡ ranOnce (stepOf s w m)
 
 -- two registers that are not the same do not see each other, and PC and the flags stand apart, at any VL up to 2048 and of files of any length
 abbrev pub RegisterLaws : Type 0
@@ -32,6 +36,7 @@ RunMovesPc = (s : Setting) (words : List ℕ) (m : Machine) → runOf s words m 
 pub record Claims : Type 0 where
   pub step-answers : StepAnswers
   pub run-answers : RunAnswers
+  pub one-word : RunOfOneWord
   pub registers : RegisterLaws
   pub moves : RunMovesPc
   pub starred : Every starred

@@ -10,10 +10,10 @@ use Rattle.encoding.specs.Rows.{rows}
 use Rattle.encoding.specs.Forms.{placeFirst}
 use Rattle.encoding.specs.Instructions.{inRange}
 use Rattle.encoding.specs.declared.Instruction.{Instruction}
-use Rattle.machine.specs.Machine.{Machine, machine, get, put, next, advanced}
-use Rattle.machine.specs.Touched.{readsOf, writesOf}
-use Rattle.machine.specs.Gives.{givesOf}
-use Rattle.machine.specs.Step.{Step, sized, firstFailed, needsOf, stepOf, stepAs}
+use Rattle.machine.specs.Machine.{Machine, machine, get, put, next, advanced, flagsOf}
+use Rattle.machine.specs.Needs.{firstFailed}
+use Rattle.machine.specs.Effects.{effectOf}
+use Rattle.machine.specs.Step.{Step, sized, stepOf, stepAs}
 use Rattle.machine.specs.Run.{runAs}
 use Rattle.setting.specs.Numbers.{numberOf}
 use Rattle.setting.specs.declared.Setting.{Setting}
@@ -21,7 +21,7 @@ use Rattle.setting.specs.declared.Answer.{Answer}
 use Rattle.machine.specs.declared.Scalars.{Scalars}
 
 unfoldable pub doneOf : ℕ → Instruction → Machine → Machine
-doneOf vl i m = puts (put vl) (writesOf i) (givesOf vl i (gets (get vl) (readsOf i) m)) m
+doneOf vl i m = puts (put vl) (effectOf i .writes) (effectOf i .gives vl (gets (get vl) (effectOf i .reads) m)) m
 
 -- the files have their lengths, VL is allowed and the fields are in range
 pub record Ready (z p zt vl : ℕ) (i : Instruction) : Type 0 where
@@ -37,7 +37,7 @@ executed zero vl i m = record { number = 0; left = next (doneOf vl i m) }
 executed (suc k) vl i m = record { number = suc k; left = m }
 
 unfoldable pub executedOf : Setting → Instruction → Machine → Step
-executedOf s i m = executed (firstFailed (needsOf s i (m .scalars))) (s .vl) i m
+executedOf s i m = executed (firstFailed (effectOf i .needs s (flagsOf m))) (s .vl) i m
 
 -- the tests that come before a word: 1 and 2
 pub record Checked (s : Setting) (m : Machine) : Type 0 where

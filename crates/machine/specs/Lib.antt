@@ -1,6 +1,11 @@
 pub mod Machine
-pub mod Touched
-pub mod Gives
+pub mod Needs
+pub mod Effect
+pub mod Pext
+pub mod Dup
+pub mod Luti4
+pub mod Uqrshrnb
+pub mod Effects
 pub mod Step
 pub mod Run
 pub mod Done

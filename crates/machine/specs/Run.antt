@@ -8,7 +8,8 @@ use Rattle.setting.specs.Numbers.{numberOf}
 use Rattle.setting.specs.declared.Setting.{Setting}
 use Rattle.order.specs.Steps.{Ended, steps}
 use Rattle.machine.specs.Machine.{Machine, machine}
-use Rattle.machine.specs.Step.{sized, firstFailed, need, refusalOf, execOf}
+use Rattle.machine.specs.Needs.{need, firstFailed}
+use Rattle.machine.specs.Step.{sized, refusalOf, execOf, Step}
 use Rattle.machine.specs.declared.Scalars.{Scalars}
 use Rattle.machine.specs.declared.Ran.{Ran}
 
@@ -27,6 +28,14 @@ begun (suc k) s words m = undone (suc k) m
 
 unfoldable pub runOf : Setting → List ℕ → Machine → Ended Machine
 runOf s words m = begun (refusedBefore s words m) s words m
+
+-- a step as a run of its word: one word is done where the number is 0
+abbrev pub doneBy : ℕ → ℕ
+doneBy zero = 1
+doneBy (suc k) = 0
+
+abbrev pub ranOnce : Step → Ended Machine
+ranOnce x = record { answer = x .number; done = doneBy (x .number); left = x .left }
 
 -- a number, the words done, the files and the scalars as a run
 abbrev pub runAs : ℕ → ℕ → List ℕ → List ℕ → List ℕ → Scalars → Ended Machine

@@ -11,7 +11,8 @@ use Rattle.stretch.specs.Conflict.{conflict}
 use Rattle.element.specs.Bits.{shares}
 use Rattle.stretch.specs.Bits.{startOf, bitOf, bitsOf, touchOf, clashes}
 use Rattle.element.proofs.Shared.{shares-or, shares-none, or-shares, powers-share}
-use Rattle.stretch.proofs.Known.{Known, AllKnown, own-bit, known-word}
+use Rattle.machine.proofs.Effects.{Known, AllKnown}
+use Rattle.stretch.proofs.Known.{own-bit, known-word}
 
 -- a register's bit is among a list's bits exactly when the list holds the register
 pub bit-held : (r : Register) (ss : List Register) → Known r → AllKnown ss → shares (bitOf r) (bitsOf ss) ≡ holds sameRegister r ss

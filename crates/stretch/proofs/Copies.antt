@@ -1,4 +1,4 @@
--- Two copies of a word conflict: a word that writes something was read, and every form of the table has a register that it writes.
+-- Two copies of a word conflict: a word that writes something was read, and every instruction writes a register.
 use mathlib.Core.Path.{_≡_, refl, ap}
 use mathlib.Core.Bool.{true, false, false≢true}
 use mathlib.Core.List.{[]}
@@ -9,11 +9,11 @@ use borrow.Author.Tests.{eq-eqb}
 use Rattle.setting.specs.Numbers.{Outcome, accept, refuse}
 use Rattle.encoding.specs.Decode.{decodeOf}
 use Rattle.encoding.specs.declared.Instruction.{Instruction}
-use Rattle.encoding.specs.declared.Instruction.the-variants.{Pext1, Pext2, Dup, Luti4c, Luti4s, Uqrshrnb}
 use Rattle.order.specs.Banks.{Register, sameRegister}
 use Rattle.order.proofs.Touches.{copies-conflict}
-use Rattle.machine.specs.Touched.{writesOf}
+use Rattle.machine.specs.Effects.{effectOf}
 use Rattle.machine.specs.Step.{overWord}
+use Rattle.machine.proofs.Effects.{fine}
 use Rattle.stretch.specs.Conflict.{conflict, ifRead, conflictOf}
 use Rattle.stretch.specs.Claims.{CopiesConflict, EachWrites}
 
@@ -24,18 +24,13 @@ pub copies : CopiesConflict
 unfolding conflictOf
 copies s w h = go (decodeOf s w) h
   where
-    go : (d : Outcome Instruction) → 0 < length (overWord [] writesOf d) → ifRead d (ifRead d (accept (conflict s w w))) ≡ accept true
+    go : (d : Outcome Instruction) → 0 < length (overWord [] (λ i. effectOf i .writes) d) → ifRead d (ifRead d (accept (conflict s w w))) ≡ accept true
     go (accept i) k = ap accept (copies-conflict sameRegister self _ _ w h)
     go (refuse n) k = absurd (omega arith)
 
 pub each-writes : EachWrites
 each-writes s w h = go (decodeOf s w) h
   where
-    go : (d : Outcome Instruction) → overWord false (λ i. true) d ≡ true → 0 < length (overWord [] writesOf d)
-    go (accept (Pext1 size imm2 counter pd)) k = omega arith
-    go (accept (Pext2 size i1 counter pd)) k = omega arith
-    go (accept (Dup size offset index pg pn pd)) k = omega arith
-    go (accept (Luti4c size i1 zn zd)) k = omega arith
-    go (accept (Luti4s size i1 zn zd)) k = omega arith
-    go (accept (Uqrshrnb size shift zn zd)) k = omega arith
+    go : (d : Outcome Instruction) → overWord false (λ i. true) d ≡ true → 0 < length (overWord [] (λ i. effectOf i .writes) d)
+    go (accept i) k = fine i .writes-some
     go (refuse n) k = absurd (false≢true k)

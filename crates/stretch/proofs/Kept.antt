@@ -6,15 +6,12 @@ use Prim.Native.Nat.{ℕ, _≤_}
 use lib.Dec.{eqb}
 use lib.ListN.{length, getD}
 use Rattle.setting.specs.Allowed.{lengthAllowed, featuresAllowed, allowedOf}
-use Rattle.setting.specs.Numbers.{Outcome, accept, refuse}
 use Rattle.setting.specs.declared.Setting.{Setting}
 use Rattle.element.specs.Size.{pick}
 use Rattle.element.specs.Slots.{setSlot}
 use Rattle.element.proofs.Slots.{setSlot-length}
 use Rattle.element.proofs.Tests.{both-yes}
 use Rattle.encoding.specs.Decode.{decodeOf}
-use Rattle.encoding.specs.declared.Instruction.{Instruction}
-use Rattle.encoding.specs.declared.Instruction.the-variants.{Pext1, Pext2, Dup, Luti4c, Luti4s, Uqrshrnb}
 use Rattle.order.specs.Banks.{Register, sameRegister, change}
 use Rattle.order.specs.Touch.{Registers, fromReads}
 use Rattle.order.specs.Steps.{Independent}
@@ -23,7 +20,6 @@ use Rattle.order.proofs.Touches.{independent}
 use Rattle.part.proofs.Lengths.{lengths-of}
 use Rattle.machine.specs.Machine.{Machine, Flags, gap, width, files, get, put, next, flagsOf}
 use Rattle.machine.specs.Step.{sized, reads, writes, gives, verdict, refusalOf, execOf}
-use Rattle.machine.specs.declared.Scalars.{Scalars}
 use Rattle.machine.proofs.Registers.{registers}
 use Rattle.stretch.specs.Conflict.{conflict}
 
@@ -69,25 +65,12 @@ kept-laws vl small =
     }
 
 -- ---- refusals hang on it alone
--- scalars with these flags
-abbrev bare : Flags → Scalars
-bare f = record { w12 = 0; w13 = 0; w14 = 0; w15 = 0; pc = 0; v = f .v; s = f .s; t = f .t }
-
-verdict-by-flags : (s : Setting) (m : Machine) (d : Outcome Instruction) → verdict s (m .scalars) d ≡ verdict s (bare (flagsOf m)) d
-verdict-by-flags s m (accept (Pext1 size imm2 counter pd)) = refl
-verdict-by-flags s m (accept (Pext2 size i1 counter pd)) = refl
-verdict-by-flags s m (accept (Dup size offset index pg pn pd)) = refl
-verdict-by-flags s m (accept (Luti4c size i1 zn zd)) = refl
-verdict-by-flags s m (accept (Luti4s size i1 zn zd)) = refl
-verdict-by-flags s m (accept (Uqrshrnb size shift zn zd)) = refl
-verdict-by-flags s m (refuse n) = refl
-
 abbrev refusalBy : Setting → ℕ → Kept → ℕ
-refusalBy s w k = pick (allowedOf s) (pick (k .sized) (verdict s (bare (k .flags)) (decodeOf s w)) 2) 1
+refusalBy s w k = pick (allowedOf s) (pick (k .sized) (verdict s (k .flags) (decodeOf s w)) 2) 1
 
 refusal-by-kept : (s : Setting) (w : ℕ) (m : Machine) → refusalOf s w m ≡ refusalBy s w (keptOf m)
 unfolding refusalOf
-refusal-by-kept s w m = ap (λ (n : ℕ). pick (allowedOf s) (pick (sized m) n 2) 1) (verdict-by-flags s m (decodeOf s w))
+refusal-by-kept s w m = refl
 
 pub words-independent : (s : Setting) → allowedOf s ≡ true → Independent (refusalOf s) (execOf s) (conflict s)
 unfolding allowedOf execOf

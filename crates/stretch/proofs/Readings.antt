@@ -10,7 +10,7 @@ use Rattle.encoding.specs.Decode.{decodeOf, decodedAs}
 use Rattle.encoding.specs.declared.Instruction.{Instruction}
 use Rattle.encoding.specs.declared.Decoded.{Decoded}
 use Rattle.encoding.specs.declared.Decoded.the-variants.{Fields, Refused}
-use Rattle.machine.specs.Touched.{readsOf, writesOf}
+use Rattle.machine.specs.Effects.{effectOf}
 use Rattle.machine.specs.Step.{overWord}
 use Rattle.stretch.specs.Conflict.{conflict, isRead, ifRead, conflictOf}
 use Rattle.stretch.specs.Bits.{touchBy, touchIn, touchOf, readingOf, readingAs, clashes}
@@ -21,14 +21,14 @@ use Rattle.stretch.proofs.Clashes.{clash-is-conflict}
 
 -- ---- from the decoding
 module _ (s : Setting) (w : ℕ) {d : Decoded} (e : decodedAs d ≡ decodeOf s w) where
-  pub read-touches : {i : Instruction} {t : Touch} → d ≡ Fields i → t ≡ touchBy (readsOf i) (writesOf i) → accept t ≡ readingOf s w
+  pub read-touches : {i : Instruction} {t : Touch} → d ≡ Fields i → t ≡ touchBy (effectOf i .reads) (effectOf i .writes) → accept t ≡ readingOf s w
   read-touches k q = ap accept q ∙ ap touchIn (sym (ap decodedAs k) ∙ e)
 
   pub read-refused : {a : Answer} → d ≡ Refused a → refuse (numberOf a) ≡ readingOf s w
   read-refused k = ap touchIn (sym (ap decodedAs k) ∙ e)
 
 -- ---- what a reading says of the word
-touch-in : (d : Outcome Instruction) (t : Touch) → touchIn d ≡ accept t → t ≡ touchBy (overWord [] readsOf d) (overWord [] writesOf d)
+touch-in : (d : Outcome Instruction) (t : Touch) → touchIn d ≡ accept t → t ≡ touchBy (overWord [] (λ i. effectOf i .reads) d) (overWord [] (λ i. effectOf i .writes) d)
 touch-in (accept i) t e = cc
 touch-in (refuse n) t e = cc
 

@@ -6,7 +6,7 @@ use lib.Bits.{bitOr, or-zero-r}
 use Rattle.order.specs.Banks.{Register}
 use Rattle.encoding.specs.declared.Instruction.{Instruction}
 use Rattle.machine.specs.Machine.{ZT0}
-use Rattle.machine.specs.Touched.{readsOf, writesOf}
+use Rattle.machine.specs.Effects.{effectOf}
 use Rattle.stretch.specs.Bits.{bitOf, bitsOf, joined, touchBy}
 use Rattle.stretch.specs.declared.touch.Touch.{Touch}
 
@@ -23,5 +23,5 @@ unfolding bitsOf bitOf
 table-bit = refl
 
 -- a row, of an instruction that is known
-pub row-is : {i j : Instruction} {t : Touch} {x y : ℕ} → i ≡ j → t ≡ joined x y → x ≡ bitsOf (readsOf j) → y ≡ bitsOf (writesOf j) → t ≡ touchBy (readsOf i) (writesOf i)
+pub row-is : {i j : Instruction} {t : Touch} {x y : ℕ} → i ≡ j → t ≡ joined x y → x ≡ bitsOf (effectOf j .reads) → y ≡ bitsOf (effectOf j .writes) → t ≡ touchBy (effectOf i .reads) (effectOf i .writes)
 row-is e t x y = t ∙ ap₂ joined x y ∙ rw (sym e)

@@ -10,7 +10,7 @@ use Rattle.setting.specs.declared.Setting.{Setting}
 use Rattle.order.specs.Banks.{Register}
 use Rattle.encoding.specs.Decode.{decodeOf}
 use Rattle.encoding.specs.declared.Instruction.{Instruction}
-use Rattle.machine.specs.Touched.{readsOf, writesOf}
+use Rattle.machine.specs.Effects.{effectOf}
 use Rattle.machine.specs.Step.{reads, writes}
 use Rattle.stretch.specs.declared.touch.Touch.{Touch}
 use Rattle.stretch.specs.declared.touch.Reading.{Reading}
@@ -40,7 +40,7 @@ touchOf s w = touchBy (reads s w) (writes s w)
 
 -- the same, or the number that the word is refused with
 abbrev pub touchIn : Outcome Instruction → Outcome Touch
-touchIn (accept i) = accept (touchBy (readsOf i) (writesOf i))
+touchIn (accept i) = accept (touchBy (effectOf i .reads) (effectOf i .writes))
 touchIn (refuse n) = refuse n
 
 abbrev pub readingOf : Setting → ℕ → Outcome Touch

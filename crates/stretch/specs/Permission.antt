@@ -11,7 +11,7 @@ use Rattle.setting.specs.declared.Setting.{Setting}
 use Rattle.order.specs.Rearranged.{Rearrangement, Permitted}
 use Rattle.element.specs.Every.{all}
 use Rattle.order.specs.Tested.{rearranges, permits}
-use Rattle.machine.specs.Step.{firstFailed, need}
+use Rattle.machine.specs.Needs.{need, firstFailed}
 use Rattle.stretch.specs.Conflict.{conflict, isRead}
 
 -- every word of the stretch can be read

@@ -5,7 +5,7 @@ ghost use mathlib.Core.List.{[], _∷_};
 ghost use Prim.Native.Nat.{_+_, _*_, _^_, _≤_, _<_};
 ghost use Rattle.encoding.specs.Instructions.{inRange};
 ghost use Rattle.machine.specs.Machine.{Z, P, W};
-ghost use Rattle.machine.specs.Touched.{readsOf, writesOf};
+ghost use Rattle.machine.specs.Effects.{effectOf};
 ghost use Rattle.stretch.specs.Bits.{bitOf, bitsOf, joined, touchBy, readingAs, readingOf, clashes};
 use encoding::Decoded;
 use encoding::Instruction;
@@ -74,7 +74,7 @@ fn join(reads: u64, writes: u64) -> Touch
 // Document 01's table, "What a word touches".
 fn touch_of(instruction: Instruction) -> Touch
     requires { ⌜ inRange instruction ≡ true ⌝ }
-    ensures { λ r. ⌜ r ≡ touchBy (readsOf instruction) (writesOf instruction) ⌝ }
+    ensures { λ r. ⌜ r ≡ touchBy (effectOf instruction .reads) (effectOf instruction .writes) ⌝ }
 {
     match instruction {
         Instruction::Pext1 { counter, pd, .. } => join(predicate(counter), predicate(pd)),

@@ -1,9 +1,7 @@
 -- `condition` meets its contract: in each arm the row is known, and past the table's end there is none.
-use mathlib.Core.Path.{sym, ap}
-use mathlib.Core.Bool.{not}
+use mathlib.Core.Path.{sym}
 use mathlib.Core.List.{map}
 use native.Mathlib.Omega.{arith}
-use lib.Dec.{eqb}
 use lib.ListN.{List·getD-eq-default}
 use Rattle.encoding.specs.Layout.{fieldsOf}
 use Rattle.encoding.specs.Rows.{Row, rows}

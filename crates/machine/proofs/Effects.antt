@@ -1,0 +1,106 @@
+-- What every instruction's page meets, a clause for each: its needs are refused with 6 at most, it writes something and no scalar, and it touches registers that there are.
+use mathlib.Core.Path.{_≡_, refl}
+use mathlib.Core.Bool.{Bool, true, false, _&&_, _||_}
+use mathlib.Core.List.{List, [], _∷_}
+use Prim.Native.Nat.{ℕ, _+_, _-_, _%_, _<_}
+use native.Mathlib.Omega.{arith}
+use lib.Dec.{T, eqb, ltb, leb}
+use lib.ListN.{length, getD}
+use borrow.Author.Tests.{leb-true}
+use Rattle.setting.specs.Allowed.{hasFeature}
+use Rattle.setting.specs.declared.Setting.{Setting}
+use Rattle.setting.specs.declared.Feature.the-variants.{Sve2p1}
+use Rattle.element.specs.Size.{pick}
+use Rattle.element.proofs.Tests.{both-yes}
+use Rattle.order.specs.Banks.{Register}
+use Rattle.order.specs.Touch.{puts}
+use Rattle.encoding.specs.Instructions.{inRange}
+use Rattle.encoding.specs.declared.Instruction.{Instruction}
+use Rattle.encoding.specs.declared.Instruction.the-variants.{Pext1, Pext2, Dup, Luti4c, Luti4s, Uqrshrnb}
+use Rattle.encoding.proofs.FieldBits.{strided-zd}
+use Rattle.encoding.proofs.InRange.{pext-ranges, dup-ranges, luti-ranges, narrow-ranges}
+use Rattle.machine.specs.Machine.{Machine, put, Flags}
+use Rattle.machine.specs.Needs.{Need, need}
+use Rattle.machine.specs.Effects.{effectOf}
+
+-- no need has a greater number
+abbrev pub atMostSix : List Need → Bool
+atMostSix [] = true
+atMostSix (n ∷ ns) = leb (n .number) 6 && atMostSix ns
+
+-- by bank: how many registers it has
+abbrev pub roomOf : ℕ → ℕ
+roomOf b = getD (32 ∷ 16 ∷ 1 ∷ 4 ∷ []) b 0
+
+abbrev pub Known : Register → Type 0
+Known r = r .at < roomOf (r .bank)
+
+abbrev pub AllKnown : List Register → Type 0
+AllKnown [] = Unit {0}
+AllKnown (r ∷ rs) = Known r × AllKnown rs
+
+pub record Fine (i : Instruction) : Type 0 where
+  pub refused-small : (s : Setting) (f : Flags) → T (atMostSix (effectOf i .needs s f))
+  pub writes-some : 0 < length (effectOf i .writes)
+  pub contents-only : (vl : ℕ) (cs : List (List ℕ)) (m : Machine) → puts (put vl) (effectOf i .writes) (effectOf i .gives vl cs) m .scalars ≡ m .scalars
+  pub known : inRange i ≡ true → AllKnown (effectOf i .reads) × AllKnown (effectOf i .writes)
+
+-- V or S, by a feature
+by-feature : (b : Bool) (f : Flags) → T (atMostSix (pick b (need 4 (f .v)) (need 5 (f .s)) ∷ []))
+by-feature true f = tt
+by-feature false f = tt
+
+pub fine : (i : Instruction) → Fine i
+unfolding puts put
+fine (Pext1 size imm2 counter pd) = record {
+  refused-small = λ s f. by-feature (hasFeature (s .features) Sve2p1) f;
+  writes-some = omega arith;
+  contents-only = λ vl cs m. refl;
+  known = λ e. let g = pext-ranges 4 size imm2 counter pd e in search (g .counter-lt, g .pd-lt);
+}
+fine (Pext2 size i1 counter pd) = record {
+  refused-small = λ s f. by-feature (hasFeature (s .features) Sve2p1) f;
+  writes-some = omega arith;
+  contents-only = λ vl cs m. refl;
+  known = λ e. let g = pext-ranges 2 size i1 counter pd e in let next : (pd + 1) % 16 < 16 = omega arith in search (g .counter-lt, g .pd-lt, next);
+}
+fine (Dup size offset index pg pn pd) = record {
+  refused-small = λ s f. tt;
+  writes-some = omega arith;
+  contents-only = λ vl cs m. refl;
+  known = λ e. let g = dup-ranges size offset index pg pn pd e in let w : index - 12 < 4 = omega (arith, g .index-ge, g .index-lt) in search (g .pg-lt, g .pn-lt, w, g .pd-lt);
+}
+fine (Luti4c size i1 zn zd) = record {
+  refused-small = λ s f. tt;
+  writes-some = omega arith;
+  contents-only = λ vl cs m. refl;
+  known = λ e.
+      let g = luti-ranges (eqb size 16 || eqb size 32) i1 zn (eqb (zd % 4) 0 && leb zd 28) e in
+      let most = leb-true zd 28 (both-yes (eqb (zd % 4) 0) (leb zd 28) (g .3) .1) in
+      let l : 0 < 1 = omega arith in
+      let a : zd < 32 = omega arith in
+      let b : zd + 1 < 32 = omega arith in
+      let c : zd + 2 < 32 = omega arith in
+      let d : zd + 3 < 32 = omega arith in
+      search (g .2, l, a, b, c, d);
+}
+fine (Luti4s size i1 zn zd) = record {
+  refused-small = λ s f. tt;
+  writes-some = omega arith;
+  contents-only = λ vl cs m. refl;
+  known = λ e.
+      let g = luti-ranges (eqb size 16) i1 zn (ltb zd 4 || (leb 16 zd && ltb zd 20)) e in
+      let d = strided-zd zd (g .3) in
+      let l : 0 < 1 = omega arith in
+      let a : zd < 32 = omega arith in
+      let b : zd + 4 < 32 = omega arith in
+      let c : zd + 8 < 32 = omega arith in
+      let f : zd + 12 < 32 = omega arith in
+      search (g .2, l, a, b, c, f);
+}
+fine (Uqrshrnb size shift zn zd) = record {
+  refused-small = λ s f. tt;
+  writes-some = omega arith;
+  contents-only = λ vl cs m. refl;
+  known = λ e. let g = narrow-ranges size shift zn zd e in search (g .2, g .3);
+}
