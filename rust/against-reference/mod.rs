@@ -1,6 +1,6 @@
-//! An interpreter put on the reference's machines: the plain one, the tuned one,
-//! and the proved library. These pages are a module of a test file in the
-//! package of each, which names it `interpreter`.
+//! An interpreter put on the reference's machines: the plain one and the proved
+//! library. These pages are a module of a test file in the package of each, which
+//! names it `interpreter`.
 
 mod runs;
 mod steps;

@@ -1,11 +1,13 @@
 -- What `decodeOf` is in each case that the code meets, over plain numbers: what the functions' proofs cite.
 use mathlib.Core.Path.{_≡_, sym, ap, _∙_}
-use mathlib.Core.Bool.{true, false}
+use mathlib.Core.Bool.{true, false, not, _||_}
 use mathlib.Core.List.{List, [], _∷_}
-use Prim.Native.Nat.{ℕ, suc, _≤_}
+use Prim.Native.Nat.{ℕ, zero, suc, _+_, _*_, _≤_}
+use native.Mathlib.Nat.{zero-add, zero-mul, suc-mul}
 use native.Mathlib.Omega.{arith}
 use lib.Dec.{eqb, eqb→eq}
 use lib.ListN.{length}
+use borrow.Author.Tests.{ne-eqb}
 use Rattle.setting.specs.Allowed.{allowedOf}
 use Rattle.setting.specs.Numbers.{refuse}
 use Rattle.setting.specs.declared.Setting.{Setting}
@@ -43,3 +45,8 @@ module _ (s : Setting) (w : ℕ) where
     pub form-place : k ≡ placeIn (decodeOf s w)
     unfolding decodeOf
     form-place = simp a (e ∙ place-of-first (s .features) w)
+
+-- two fields that are not both 0 are no 0 one behind the other
+pub not-both-zero : (n a b : ℕ) → (not (eqb a 0) || not (eqb b 0)) ≡ not (eqb (a * suc n + b) 0)
+not-both-zero n zero b = rw (zero-mul (suc n), zero-add b)
+not-both-zero n (suc a) b = rw (ne-eqb (suc a) 0 (λ e. omega arith), ne-eqb (suc a * suc n + b) 0 (λ e. omega (arith, suc-mul a (suc n))))

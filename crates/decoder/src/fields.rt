@@ -20,7 +20,7 @@ pub(crate) fn element_size(log: u32) -> u32
 }
 
 // DUP's tszh:tszl.
-pub(crate) fn dup_tsz(word: u32) -> u32
+fn dup_tsz(word: u32) -> u32
     ensures { λ r. ⌜ r ≡ word / 0x400000 % 2 * 8 + word / 0x40000 % 8 ⌝ }
 {
     word / 0x400000 % 2 * 8 + word / 0x40000 % 8
@@ -34,7 +34,7 @@ pub(crate) fn luti_size(word: u32) -> u32
 }
 
 // UQRSHRNB's tszh:tszl, and the result size that it says.
-pub(crate) fn narrow_tsz(word: u32) -> u32
+fn narrow_tsz(word: u32) -> u32
     ensures { λ r. ⌜ r ≡ word / 0x400000 % 2 * 4 + word / 0x80000 % 4 ⌝ }
 {
     word / 0x400000 % 2 * 4 + word / 0x80000 % 4

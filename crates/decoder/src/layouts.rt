@@ -15,13 +15,13 @@ fn condition(place: usize, word: u32) -> bool
     match place {
         0 => true,
         1 => true,
-        2 => fields::dup_tsz(word) != 0,
+        2 => (word / 0x400000 % 2 != 0) | (word / 0x40000 % 8 != 0),
         3 => {
             let size = fields::luti_size(word);
             (size == 1) | (size == 2)
         }
         4 => fields::luti_size(word) == 1,
-        5 => fields::narrow_tsz(word) != 0,
+        5 => (word / 0x400000 % 2 != 0) | (word / 0x80000 % 4 != 0),
         _ => false,
     }
 }
@@ -54,19 +54,19 @@ pub(crate) fn row_of(features: u32, word: u32) -> usize
     place
 }
 
-// The places in the order in which they are tried by turns: UQRSHRNB, the shortest word for its length, comes first.
-const TURNS: [usize; ROWS] = [5, 0, 1, 2, 3, 4];
+// The places in the order in which they are tried by turns: the words that take least time come first.
+const TURNS: [usize; ROWS] = [0, 1, 5, 2, 3, 4];
 
-// The same, by turns: no word has two layouts, so the first that it has decides, and the order is free. In a run the same words
-// come again, and each branch is foreseen.
+// The same, by turns, up to one that matches: no word has two layouts, so the order is free. In a run the same words come again,
+// and each branch is foreseen.
 pub(crate) fn row_by_turns(features: u32, word: u32) -> usize
     ensures { λ r. ⌜ r ≡ placeFirst rows features word ⌝ }
 {
     let mut n: usize = 0;
     while n < ROWS {
         let k = TURNS[n];
-        if table::has_layout(k, word) {
-            return earlier(rest(k, features, word), k, ROWS);
+        if table::has_layout(k, word) && rest(k, features, word) {
+            return k;
         }
         n += 1;
     }

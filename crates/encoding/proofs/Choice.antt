@@ -46,7 +46,7 @@ own-sound r [] a = a
 own-sound r (q ∷ qs) a = own-sound r qs (both (sound (q .layout) && apart (r .layout) (q .layout)) (apartFrom r qs) a .1)
 
 -- where a row's layout matches, none that is apart from it does
-pub others-not : (r : Row) (rs : List Row) → T (apartFrom r rs) → (w : ℕ) → matches (r .layout) w ≡ true → noRow (λ q. matches (q .layout) w) rs
+others-not : (r : Row) (rs : List Row) → T (apartFrom r rs) → (w : ℕ) → matches (r .layout) w ≡ true → noRow (λ q. matches (q .layout) w) rs
 others-not r [] a w m = tt
 others-not r (q ∷ qs) a w m =
     let p = both (sound (q .layout) && apart (r .layout) (q .layout)) (apartFrom r qs) a in

@@ -4,7 +4,7 @@ use mathlib.Core.Bool.{true, false, false≢true, _||_}
 use mathlib.Core.List.{List, [], _∷_, map}
 use Prim.Native.Nat.{ℕ, _^_, _<_, _≤_}
 use lib.Dec.{T, eqb, eqb→eq}
-use lib.Bits.{bitAnd, bitOr}
+use lib.Bits.{bitAnd}
 use lib.ListN.{length, getD, List·getD-map, List·getD-eq-default}
 use borrow.Author.Tests.{eq-eqb, ne-eqb, lt-ltb, le-ltb}
 use Rattle.setting.specs.Allowed.{bitOf, hasAny}
@@ -14,7 +14,7 @@ use Rattle.element.proofs.Below.{below}
 use Rattle.element.proofs.Shared.{shares-none, or-shares, shares-power}
 use Rattle.encoding.specs.Layout.{Piece, width, matches, fixedOf}
 use Rattle.encoding.specs.Rows.{Row, rows}
-use Rattle.encoding.specs.Forms.{layoutAt, featuresAt, hasLayout}
+use Rattle.encoding.specs.Forms.{layoutAt, featuresAt, featureBits, hasLayout}
 use Rattle.encoding.proofs.LayoutLaws.{sound, maskOf, matches-masked, masked-matches}
 use Rattle.encoding.proofs.Apart.{decide}
 
@@ -50,20 +50,13 @@ pub no-layout : (k w : ℕ) → length rows ≤ k → false ≡ hasLayout k w
 no-layout k w h = rw (le-ltb k (length rows) h)
 
 -- ---- features
-abbrev featureBits : List Feature → ℕ
-featureBits [] = 0
-featureBits (x ∷ xs) = bitOr (2 ^ bitOf x) (featureBits xs)
-
-abbrev pub features : List ℕ
-features = map featureBits (map (λ (r : Row). r .features) rows)
-
 -- a bit in common is a feature of the list
 any-shares : (f : ℕ) (xs : List Feature) → shares f (featureBits xs) ≡ hasAny f xs
 any-shares f [] = shares-none f
 any-shares f (x ∷ xs) = or-shares f (2 ^ bitOf x) (featureBits xs) ∙ ap₂ _||_ (shares-power f (bitOf x)) (any-shares f xs)
 
-pub feature-bits-tell : (k f : ℕ) → shares f (getD features k 0) ≡ hasAny f (featuresAt k)
-feature-bits-tell k f = ap (shares f) (List·getD-map featureBits (map (λ (r : Row). r .features) rows) k []) ∙ any-shares f (featuresAt k)
+pub feature-bits-tell : (k f : ℕ) {b : ℕ} → b ≡ featureBits (featuresAt k) → shares f b ≡ hasAny f (featuresAt k)
+feature-bits-tell k f e = ap (shares f) e ∙ any-shares f (featuresAt k)
 
-pub no-features : (k f : ℕ) → length rows ≤ k → false ≡ hasAny f (featuresAt k)
-no-features k f h = ap (hasAny f) (sym (List·getD-eq-default (map (λ (r : Row). r .features) rows) [] h))
+pub no-features : (k : ℕ) → length rows ≤ k → 0 ≡ featureBits (featuresAt k)
+no-features k h = ap featureBits (sym (List·getD-eq-default (map (λ (r : Row). r .features) rows) [] h))

@@ -2,7 +2,7 @@
 ghost use mathlib.Core.Path.{_≡_};
 ghost use Rattle.setting.specs.Allowed.{hasAny};
 ghost use Rattle.encoding.specs.Layout.{fixedOf};
-ghost use Rattle.encoding.specs.Forms.{layoutAt, featuresAt, hasLayout};
+ghost use Rattle.encoding.specs.Forms.{layoutAt, featuresAt, featureBits, hasLayout};
 
 // The number of rows, and the place of no row.
 pub const ROWS: usize = 6;
@@ -25,9 +25,6 @@ const FIXED: [u32; ROWS] = [
     0xc09a8000,
     0x45203800,
 ];
-
-// The features of which one is enough, as bits of the feature number.
-const FEATURES: [u32; ROWS] = [0b01010, 0b01010, 0b00100, 0b01000, 0b10000, 0b00101];
 
 // The names, a row of 16 bytes for each and one for no row: as they follow a word's digits in a listing, and how long that is.
 pub const NAMES: [u8; 16 * (ROWS + 1)] =
@@ -55,12 +52,24 @@ pub fn fixed_bits(place: usize) -> u32
     0
 }
 
+// The features of which one is enough, as bits of the feature number; none past the table's end.
+fn feature_bits(place: usize) -> u32
+    ensures { λ r. ⌜ r ≡ featureBits (featuresAt place) ⌝ }
+{
+    match place {
+        0 => 0b01010,
+        1 => 0b01010,
+        2 => 0b00100,
+        3 => 0b01000,
+        4 => 0b10000,
+        5 => 0b00101,
+        _ => 0,
+    }
+}
+
 // Whether the feature number has a feature of the row at a place of the table; no past its end.
 pub fn available(place: usize, features: u32) -> bool
     ensures { λ r. ⌜ r ≡ hasAny features (featuresAt place) ⌝ }
 {
-    if place < ROWS {
-        return features & FEATURES[place] != 0;
-    }
-    false
+    features & feature_bits(place) != 0
 }

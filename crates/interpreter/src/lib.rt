@@ -155,7 +155,8 @@ pub fn run(
     }
 }
 
-// One word, as a run of it.
+// One word, as a run of it. The scalars are taken one by one: where a caller steps again and again, PC is then read as it was
+// stored, and not together with its neighbours, for which the processor would wait.
 pub fn step(
     z: &mut [u8],
     p: &mut [u8],
@@ -167,7 +168,17 @@ pub fn step(
     ensures { λ r. ⌜ steppedAs r (now (z .exit)) (now (p .exit)) (now (zt .exit)) ≡ stepOf setting word (machine (now (z .entry)) (now (p .entry)) (now (zt .entry)) scalars) ⌝ }
 {
     let words = [word];
-    let ran = run(z, p, zt, scalars, setting, &words);
+    let held = Scalars {
+        w12: scalars.w12,
+        w13: scalars.w13,
+        w14: scalars.w14,
+        w15: scalars.w15,
+        pc: scalars.pc,
+        v: scalars.v,
+        s: scalars.s,
+        t: scalars.t,
+    };
+    let ran = run(z, p, zt, held, setting, &words);
     let answer = ran.answer;
     let scalars = ran.scalars;
     Stepped { answer, scalars }

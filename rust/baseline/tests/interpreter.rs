@@ -1,4 +1,5 @@
-//! This interpreter against the reference, by the tests all of them share.
+//! This interpreter against the reference, by the tests that it shares with the
+//! proved library.
 
 use baseline as interpreter;
 

@@ -45,8 +45,9 @@ pub const FUNCTIONS: [&str; 9] = [
     "gighull_lines",
 ];
 
-/// The header's declarations, one for one.
-mod c {
+/// The header's declarations, one for one; also for whoever finds the functions
+/// of another archive by their addresses.
+pub mod c {
     use super::Scalars;
 
     unsafe extern "C" {

@@ -1,10 +1,10 @@
 //! The proved library's step and run against the reference, by the tests that
-//! the interpreters share.
+//! it shares with the plain interpreter.
 
 #[path = "../../against-reference/mod.rs"]
 mod against_reference;
 
-/// The library with the interpreters' interface.
+/// The library with that one's interface.
 mod interpreter {
     use gighull::ffi;
 

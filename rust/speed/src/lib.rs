@@ -1,11 +1,17 @@
 //! What the drivers share: where two texts differ, the middle of some times,
-//! and how to fail; and what `speedplot` reads and draws.
+//! and how to fail; what `leafspeed` and `archivespeed` time, and how; and what
+//! `speedplot` reads and draws.
 
 use std::io::Write;
 use std::process::ExitCode;
 
+pub mod archive;
+pub mod cases;
+pub mod functions;
+mod object;
 pub mod ratio_plot;
 pub mod ratios;
+pub mod timing;
 
 /// The first line that two texts do not have alike.
 #[derive(Debug, PartialEq, Eq)]

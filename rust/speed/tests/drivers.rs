@@ -5,9 +5,12 @@
 mod called;
 
 use std::fs;
-use std::process::Output;
+use std::process::{Command, Output};
 
 use called::{called, complained, text};
+use gighull::ffi::{ARCHIVE, ARCHIVE_HASH};
+
+const HEADERS: &str = concat!(env!("CARGO_MANIFEST_DIR"), "/../../include");
 
 fn listcheck(arguments: &[&str]) -> Output {
     called(env!("CARGO_BIN_EXE_listcheck"), arguments)
@@ -17,12 +20,20 @@ fn listspeed(arguments: &[&str]) -> Output {
     called(env!("CARGO_BIN_EXE_listspeed"), arguments)
 }
 
-fn stepspeed(arguments: &[&str]) -> Output {
-    called(env!("CARGO_BIN_EXE_stepspeed"), arguments)
+fn archivespeed(arguments: &[&str]) -> Output {
+    called(env!("CARGO_BIN_EXE_archivespeed"), arguments)
 }
 
 fn speedplot(arguments: &[&str]) -> Output {
     called(env!("CARGO_BIN_EXE_speedplot"), arguments)
+}
+
+/// With nothing in it.
+fn new_folder(name: &str) -> String {
+    let folder = format!("{}/{name}", env!("CARGO_TARGET_TMPDIR"));
+    let _ = fs::remove_dir_all(&folder);
+    fs::create_dir(&folder).unwrap();
+    folder
 }
 
 #[test]
@@ -87,18 +98,88 @@ fn listspeed_refuses_different_programs() {
 }
 
 #[test]
-fn stepspeed_has_a_line_for_each_form_and_length() {
-    let output = stepspeed(&["1"]);
-    assert!(output.status.success());
+fn archivespeed_has_a_line_for_each_case_and_length() {
+    let output = archivespeed(&[ARCHIVE, ARCHIVE, "1"]);
+    assert!(output.status.success(), "{output:?}");
     let report = text(&output.stdout);
-    assert_eq!(report.lines().count(), 2 + 6 * 2, "{report}");
+    // 22 stretches and 20 times steps at three lengths, and the listing.
+    let lines = 5 + (22 + 20) * 3 + 1 + 1;
+    assert_eq!(report.lines().count(), lines, "{report}");
+    for part in [
+        "\n| PEXT1 B | 128 | ",
+        "\n| DUP B, false | 512 | ",
+        "\n| mixed, 3 | 2048 | ",
+        "\n| step: V closed | 128 | ",
+        "\n| listing | - | ",
+        "\nall equal after every case; ",
+    ] {
+        assert_eq!(report.matches(part).count(), 1, "{part} in {report}");
+    }
+    assert_eq!(report.matches(ARCHIVE_HASH).count(), 2, "{report}");
+}
+
+#[test]
+fn archivespeed_refuses_other_archives() {
+    let folder = new_folder("archives");
+    // The linker does not mind that these are single objects.
+    let compiled = |name: &str, source: &str| {
+        let (page, archive) = (format!("{folder}/{name}.c"), format!("{folder}/{name}.a"));
+        fs::write(&page, source).unwrap();
+        let options = ["-c", "-fPIC", "-I", HEADERS, &page, "-o", &archive];
+        assert!(called("cc", &options).status.success());
+        archive
+    };
+    let empty = compiled("empty", "int nothing;\n");
+    let line = "there is no gighull_run in it\n";
+    for arguments in [[ARCHIVE, &empty], [&empty, ARCHIVE]] {
+        let output = archivespeed(&arguments);
+        assert!(complained(&output), "{output:?}");
+        assert!(text(&output.stderr).ends_with(line), "{output:?}");
+    }
+    let idle = compiled("idle", IDLE);
+    let line = "archivespeed: PEXT1 B at VL 128: the machines differ\n";
+    for arguments in [[ARCHIVE, &idle], [&idle, ARCHIVE]] {
+        let output = archivespeed(&arguments);
+        assert!(complained(&output), "{output:?}");
+        assert_eq!(text(&output.stderr), line);
+    }
+}
+
+/// Answers as if all words were done.
+const IDLE: &str = r#"
+#include "gighull.h"
+uint32_t gighull_run(uint8_t *z, size_t z_len, uint8_t *p, size_t p_len, uint8_t *zt, size_t zt_len, uint32_t w12,
+                     uint32_t w13, uint32_t w14, uint32_t w15, uint64_t *pc, bool v, bool s, bool t, uint32_t vl,
+                     uint32_t features, const uint32_t *words, size_t words_len, size_t *done) {
+    *done = words_len;
+    return 0;
+}
+uint32_t gighull_step(uint8_t *z, size_t z_len, uint8_t *p, size_t p_len, uint8_t *zt, size_t zt_len,
+                      struct gighull_scalars *scalars, uint32_t vl, uint32_t features, uint32_t word) {
+    return 0;
+}
+size_t gighull_lines(const uint8_t *input, size_t input_len, uint8_t *out, size_t out_len, size_t *written) {
+    return 0;
+}
+"#;
+
+#[test]
+fn archivespeed_leaves_no_file() {
+    let folder = new_folder("archivespeed");
+    for (after, status) in [(ARCHIVE, 0), ("Cargo.toml", 1)] {
+        let output = Command::new(env!("CARGO_BIN_EXE_archivespeed"))
+            .args([ARCHIVE, after, "1"])
+            .env("TMPDIR", &folder)
+            .output()
+            .unwrap();
+        assert_eq!(output.status.code(), Some(status), "{output:?}");
+        assert_eq!(fs::read_dir(&folder).unwrap().count(), 0);
+    }
 }
 
 #[test]
 fn speedplot_writes_all_or_nothing() {
-    let folder = format!("{}/speedplot", env!("CARGO_TARGET_TMPDIR"));
-    let _ = fs::remove_dir_all(&folder);
-    fs::create_dir(&folder).unwrap();
+    let folder = new_folder("speedplot");
     let (table, plot) = (format!("{folder}/table.md"), format!("{folder}/plot.svg"));
     let good = "| form | VL | median | bar |\n|---|---|---|---|\n| A | 128 | 0.5 | inf |\n";
     fs::write(&table, good).unwrap();
@@ -125,8 +206,13 @@ fn wrong_use_is_one_line_and_a_status() {
         listspeed(&["cat", "cat", "Cargo.toml", "0"]),
         listspeed(&["cat", "cat", "no-such-file"]),
         listspeed(&["cat", "no-such-program", "Cargo.toml"]),
-        stepspeed(&["0"]),
-        stepspeed(&["1", "1"]),
+        archivespeed(&[ARCHIVE]),
+        archivespeed(&[ARCHIVE, ARCHIVE, "0"]),
+        archivespeed(&[ARCHIVE, ARCHIVE, "1", "1"]),
+        archivespeed(&[ARCHIVE, "no-such-file"]),
+        archivespeed(&["no-such-file", ARCHIVE]),
+        archivespeed(&["src", ARCHIVE]),
+        archivespeed(&["Cargo.toml", ARCHIVE]),
         speedplot(&["Cargo.toml"]),
         speedplot(&["Cargo.toml", "no-such-folder/plot.svg"]),
         speedplot(&["no-such-file", "no-such-folder/plot.svg"]),

@@ -23,21 +23,13 @@
 
 use std::hint::black_box;
 use std::process::ExitCode;
-use std::time::Instant;
 
-use reference::decode::decode;
 use reference::instruction::Form;
-use reference::random::Random;
-use reference::samples::{listing_words, matching_word};
-use reference::setting::FULL;
+use speed::cases::{Case, FEATURES, Files, Kind, LENGTHS, Machine, W, cases};
 use speed::fail;
+use speed::timing::{Outcome, Rounds, passes_in_a_round, steps, timed};
 
 const DEFAULT_ROUNDS: usize = 201;
-const FEATURES: u32 = 31;
-const STRETCH: usize = 256;
-/// About what one side takes in a round: short against the time that another
-/// process is given, so that few rounds are interrupted.
-const NANOSECONDS: f64 = 200_000.0;
 
 fn main() -> ExitCode {
     let arguments: Vec<String> = std::env::args().skip(1).collect();
@@ -56,11 +48,11 @@ fn main() -> ExitCode {
     println!("| form | VL | median | minimum | proved | baseline | least/least | bar |");
     println!("|---|---|---|---|---|---|---|---|");
     let mut over = 0;
-    for vl in [128, 512, 2048] {
-        for case in cases(files) {
+    for vl in LENGTHS {
+        for case in cases() {
             match measure(&case, vl, rounds, files) {
                 Ok(row) => {
-                    let bar = case.bar(vl);
+                    let bar = bar(&case, vl, files);
                     let missed = row.median > bar;
                     over += usize::from(missed);
                     println!(
@@ -82,119 +74,23 @@ fn main() -> ExitCode {
     ExitCode::SUCCESS
 }
 
-/// What the machine's files hold at the start.
-#[derive(Clone, Copy, Debug, PartialEq, Eq)]
-enum Files {
-    Random,
-    Cleared,
-}
-
-/// Words that are run as one stretch, or stepped one by one.
-struct Case {
-    name: String,
-    words: Vec<u32>,
-    stepped: bool,
-    /// The bars at VL 128 and at VL 2048; none at another VL, nor where it is
-    /// infinite.
-    bars: [f64; 2],
-    /// What every word must answer, and whether V is open.
-    answer: u32,
-    open: bool,
-}
-
-impl Case {
-    fn bar(&self, vl: u32) -> f64 {
-        match vl {
-            128 => self.bars[0],
-            2048 => self.bars[1],
-            _ => f64::INFINITY,
-        }
-    }
-}
-
-/// Words that are done, of every form, in no order.
-fn mixed(seed: u64) -> Vec<u32> {
-    listing_words(seed, 100_000)
-        .filter(|&word| decode(FULL, word).is_ok())
-        .take(STRETCH)
-        .collect()
-}
-
-/// Words of a form and size whose sources no one of them writes: the two halves
-/// of a file are apart, and P7 is left to the false elements.
-fn of_form(form: Form, size: u32) -> Vec<u32> {
-    let mut random = Random::new(u64::from(form.number() * 64 + size));
-    let mut words = Vec::new();
-    while words.len() < STRETCH {
-        let word = matching_word(&mut random, form);
-        let fields = decode(FULL, word).expect("the word matches").fields();
-        let apart = match form {
-            Form::Pext1 => fields[3] < 8,
-            Form::Pext2 => fields[3] < 7,
-            Form::Dup => fields[3] < 7 && fields[4] < 7 && fields[5] >= 8,
-            Form::Luti4c | Form::Luti4s | Form::Uqrshrnb => fields[2] < 16 && fields[3] >= 16,
-        };
-        if apart && fields[0] == size {
-            words.push(word);
-        }
-    }
-    words
-}
-
-/// The same with P7, which holds no true element, as Pn.
-fn of_false(words: &[u32]) -> Vec<u32> {
-    words.iter().map(|word| word & !0x1e0 | 7 << 5).collect()
-}
-
-fn cases(files: Files) -> Vec<Case> {
-    let stretch = |name: &str, words, bars| Case {
-        name: name.to_string(),
-        words,
-        stepped: false,
-        bars,
-        answer: 0,
-        open: true,
+/// What the median should not be over: at VL 128 and at VL 2048, infinite where
+/// there is no bar.
+fn bar(case: &Case, vl: u32, files: Files) -> f64 {
+    let bars = match (case.kind, files) {
+        _ if case.stepped => [2.5, f64::INFINITY],
+        (Kind::Form(Form::Uqrshrnb), _) => [1.05, 0.7],
+        (Kind::Form(Form::Luti4c | Form::Luti4s), _) => [1.05, 0.4],
+        (Kind::Form(_), Files::Random) => [1.05, 0.4],
+        (Kind::Form(_), Files::Cleared) => [1.05, 1.05],
+        (Kind::Mixed, _) => [1.0, 0.6],
+        (Kind::False | Kind::Refused, _) => [f64::INFINITY; 2],
     };
-    let none = [f64::INFINITY; 2];
-    let step = |name: &str, words, bars, answer, open| Case {
-        stepped: true,
-        answer,
-        open,
-        ..stretch(name, words, bars)
-    };
-    let sizes = |form| match form {
-        Form::Pext1 | Form::Pext2 | Form::Dup => &[8, 16, 32, 64][..],
-        Form::Luti4c => &[16, 32],
-        Form::Luti4s => &[16],
-        Form::Uqrshrnb => &[8, 16, 32],
-    };
-    let letter = |size: u32| ["B", "H", "S", "D"][size.trailing_zeros() as usize - 3];
-    let (mut cases, mut steps) = (Vec::new(), Vec::new());
-    for form in Form::ALL {
-        let bars = match (form, files) {
-            (Form::Uqrshrnb, _) => [1.05, 0.7],
-            (Form::Luti4c | Form::Luti4s, _) | (_, Files::Random) => [1.05, 0.4],
-            (_, Files::Cleared) => [1.05, 1.05],
-        };
-        for &size in sizes(form) {
-            let name = format!("{} {}", form.name(), letter(size));
-            let words = of_form(form, size);
-            let stepped = format!("step: {name}");
-            steps.push(step(&stepped, words.clone(), bars, 0, true));
-            cases.push(stretch(&name, words, bars));
-        }
+    match vl {
+        128 => bars[0],
+        2048 => bars[1],
+        _ => f64::INFINITY,
     }
-    let falses = of_false(&of_form(Form::Dup, 8));
-    cases.push(stretch("DUP B, false", falses, none));
-    for seed in 1..=3 {
-        cases.push(stretch(&format!("mixed, {seed}"), mixed(seed), [1.0, 0.6]));
-    }
-    cases.extend(steps);
-    let narrow = of_form(Form::Uqrshrnb, 8);
-    let undefined = vec![0x2520_4000; STRETCH];
-    cases.push(step("step: undefined", undefined, none, 3, true));
-    cases.push(step("step: V closed", narrow, none, 4, false));
-    cases
 }
 
 struct Row {
@@ -204,82 +100,49 @@ struct Row {
     baseline: f64,
 }
 
-struct Machine<Scalars> {
-    z: Vec<u8>,
-    p: Vec<u8>,
-    zt: Vec<u8>,
-    scalars: Scalars,
-}
-
 fn machines(files: Files) -> (Machine<gighull::Scalars>, Machine<baseline::Scalars>) {
-    let mut random = Random::new(5);
-    let mut bytes = |count: usize| match files {
-        Files::Random => (0..count).map(|_| random.next_u32() as u8).collect(),
-        Files::Cleared => vec![0; count],
+    let plain = baseline::Scalars {
+        w: W,
+        pc: 0,
+        v: true,
+        s: true,
+        t: true,
     };
-    let (z, mut p, zt) = (bytes(8192), bytes(512), bytes(64));
-    // P7 holds no true element.
-    p[224..256].fill(0);
-    let w = [1, 0x8000_0003, 2, 3];
+    let plain = Machine::start(files, plain);
+    let [w12, w13, w14, w15] = W;
     let proved = Machine {
-        z: z.clone(),
-        p: p.clone(),
-        zt: zt.clone(),
+        z: plain.z.clone(),
+        p: plain.p.clone(),
+        zt: plain.zt.clone(),
         scalars: gighull::Scalars {
-            w12: w[0],
-            w13: w[1],
-            w14: w[2],
-            w15: w[3],
-            pc: 0,
-            v: true,
-            s: true,
-            t: true,
-        },
-    };
-    let plain = Machine {
-        z,
-        p,
-        zt,
-        scalars: baseline::Scalars {
-            w,
-            pc: 0,
-            v: true,
-            s: true,
-            t: true,
+            w12,
+            w13,
+            w14,
+            w15,
+            ..gighull::Scalars::OPEN
         },
     };
     (proved, plain)
 }
 
-/// What a stretch or a step answered, in a form that the loop below calls
-/// without knowing it: the number, and the words done.
-type Run<Scalars> = fn(&mut Machine<Scalars>, u32, &[u32]) -> (u32, usize);
+/// A stretch or its steps, in a form that `timed` calls without knowing it.
+type Run<Scalars> = fn(&mut Machine<Scalars>, u32, &[u32]) -> Outcome;
 
-fn proved_run(machine: &mut Machine<gighull::Scalars>, vl: u32, words: &[u32]) -> (u32, usize) {
+fn proved_run(machine: &mut Machine<gighull::Scalars>, vl: u32, words: &[u32]) -> Outcome {
     let Machine { z, p, zt, scalars } = machine;
     let mut done = 0;
     let number = gighull::ffi::run(z, p, zt, scalars, vl, FEATURES, words, &mut done);
     (number, done)
 }
 
-/// The last word's number, and how many words were done.
-fn all(words: &[u32], mut step: impl FnMut(u32) -> u32) -> (u32, usize) {
-    let (mut number, mut done) = (0, 0);
-    for &word in words {
-        number = step(word);
-        done += usize::from(number == 0);
-    }
-    (number, done)
-}
-
-fn proved_step(machine: &mut Machine<gighull::Scalars>, vl: u32, words: &[u32]) -> (u32, usize) {
+fn proved_step(machine: &mut Machine<gighull::Scalars>, vl: u32, words: &[u32]) -> Outcome {
     let Machine { z, p, zt, scalars } = machine;
-    all(words, |word| {
+    steps(words, |word| {
         gighull::step(z, p, zt, scalars, vl, FEATURES, word)
     })
 }
 
-fn plain_run(machine: &mut Machine<baseline::Scalars>, vl: u32, words: &[u32]) -> (u32, usize) {
+fn plain_run(machine: &mut Machine<baseline::Scalars>, vl: u32, words: &[u32]) -> Outcome {
     let Machine { z, p, zt, scalars } = machine;
     let mut files = baseline::Files { z, p, zt0: zt };
     let features = FEATURES;
@@ -292,12 +155,12 @@ fn plain_run(machine: &mut Machine<baseline::Scalars>, vl: u32, words: &[u32]) -
     (outcome.number, outcome.done)
 }
 
-fn plain_step(machine: &mut Machine<baseline::Scalars>, vl: u32, words: &[u32]) -> (u32, usize) {
+fn plain_step(machine: &mut Machine<baseline::Scalars>, vl: u32, words: &[u32]) -> Outcome {
     let Machine { z, p, zt, scalars } = machine;
     let mut files = baseline::Files { z, p, zt0: zt };
     let features = FEATURES;
     let setting = baseline::Setting { vl, features };
-    all(words, |word| {
+    steps(words, |word| {
         baseline::step(setting, word, &mut files, scalars)
     })
 }
@@ -312,53 +175,24 @@ struct Side<Scalars> {
 impl<Scalars> Side<Scalars> {
     /// Nanoseconds a word.
     fn time(&mut self, case: &Case, vl: u32, count: u32) -> f64 {
-        let run = black_box(self.run);
-        let (vl, words) = black_box((vl, &case.words[..]));
-        let expected = (case.answer, if case.answer == 0 { words.len() } else { 0 });
-        let begin = Instant::now();
-        for _ in 0..count {
-            let found = run(&mut self.machine, vl, words);
-            self.wrong += u32::from(found != expected);
-        }
-        begin.elapsed().as_secs_f64() * 1e9 / f64::from(count) / words.len() as f64
+        let (run, machine) = (black_box(self.run), &mut self.machine);
+        timed(case, vl, count, &mut self.wrong, |vl, words| {
+            run(machine, vl, words)
+        })
     }
 }
 
-fn measure(case: &Case, vl: u32, rounds: usize, files: Files) -> Result<Row, String> {
-    let (proved, plain) = machines(files);
-    let mut proved = Side {
-        run: if case.stepped {
-            proved_step
-        } else {
-            proved_run
-        },
-        machine: proved,
-        wrong: 0,
-    };
-    let mut plain = Side {
-        run: if case.stepped { plain_step } else { plain_run },
-        machine: plain,
-        wrong: 0,
-    };
-    proved.machine.scalars.v = case.open;
-    plain.machine.scalars.v = case.open;
+fn measure(case: &Case, vl: u32, count: usize, files: Files) -> Result<Row, String> {
+    let (mut proved, mut plain) = sides(case, files);
     let warm = 8;
     proved.time(case, vl, warm);
     let each = plain.time(case, vl, warm) * case.words.len() as f64;
-    let count = (NANOSECONDS / each).clamp(1.0, 1e6) as u32;
-    let (mut ratios, mut least_proved, mut least_plain) = (Vec::new(), f64::MAX, f64::MAX);
-    for round in 0..rounds {
-        let (a, b) = if round % 2 == 0 {
-            let a = proved.time(case, vl, count);
-            (a, plain.time(case, vl, count))
-        } else {
-            let b = plain.time(case, vl, count);
-            (proved.time(case, vl, count), b)
-        };
-        ratios.push(a / b);
-        least_proved = least_proved.min(a);
-        least_plain = least_plain.min(b);
-    }
+    let passes = passes_in_a_round(each);
+    let mut rounds = Rounds::NONE;
+    rounds.more(count, |_, side| match side {
+        0 => proved.time(case, vl, passes),
+        _ => plain.time(case, vl, passes),
+    });
     if proved.wrong + plain.wrong > 0 {
         return Err(format!("{} at VL {vl}: another answer", case.name));
     }
@@ -369,11 +203,33 @@ fn measure(case: &Case, vl: u32, rounds: usize, files: Files) -> Result<Row, Str
     if !same {
         return Err(format!("{} at VL {vl}: the machines differ", case.name));
     }
+    let ratios = &mut rounds.ratios;
     ratios.sort_by(f64::total_cmp);
     Ok(Row {
         median: ratios[ratios.len() / 2],
         minimum: ratios[0],
-        proved: least_proved,
-        baseline: least_plain,
+        proved: rounds.least[0],
+        baseline: rounds.least[1],
     })
+}
+
+fn sides(case: &Case, files: Files) -> (Side<gighull::Scalars>, Side<baseline::Scalars>) {
+    let (mut proved, mut plain) = machines(files);
+    proved.scalars.v = case.open;
+    plain.scalars.v = case.open;
+    let proved = Side {
+        run: if case.stepped {
+            proved_step
+        } else {
+            proved_run
+        },
+        machine: proved,
+        wrong: 0,
+    };
+    let plain = Side {
+        run: if case.stepped { plain_step } else { plain_run },
+        machine: plain,
+        wrong: 0,
+    };
+    (proved, plain)
 }

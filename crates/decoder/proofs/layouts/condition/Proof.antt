@@ -1,25 +1,21 @@
 -- `condition` meets its contract: in each arm the row is known, and past the table's end there is none.
 use mathlib.Core.Path.{sym}
 use mathlib.Core.List.{map}
+use Prim.Native.Nat.{_/_, _%_}
 use native.Mathlib.Omega.{arith}
 use lib.ListN.{List·getD-eq-default}
 use Rattle.encoding.specs.Layout.{fieldsOf}
 use Rattle.encoding.specs.Rows.{Row, rows}
+use Rattle.decoder.proofs.Cases.{not-both-zero}
 use borrow.Author.Needs.{needs}
 use Rattle.decoder.proofs.layouts.condition.Statement.{statement}
 use Rattle.decoder.proofs.layouts.condition.Tie as tie
-
-dup-tsz-requires : tie.Need-dup-tsz-requires
-dup-tsz-requires c κs = search needs
 
 luti-size-requires : tie.Need-luti-size-requires
 luti-size-requires c κs = search needs
 
 luti-size-requires-2 : tie.Need-luti-size-requires-2
 luti-size-requires-2 c κs = search needs
-
-narrow-tsz-requires : tie.Need-narrow-tsz-requires
-narrow-tsz-requires c κs = search needs
 
 returns : tie.Need-returns
 returns c = search needs
@@ -28,7 +24,7 @@ returns-2 : tie.Need-returns-2
 returns-2 c = search needs
 
 returns-3 : tie.Need-returns-3
-returns-3 c = rw (c .before .match .keys3, c .dup-tsz .ensures)
+returns-3 c = let w = c .before .args .word in rw (c .match .keys3) (not-both-zero 7 (w / 0x400000 % 2) (w / 0x40000 % 8))
 
 returns-4 : tie.Need-returns-4
 returns-4 c = rw (c .before .match .keys4, c .luti-size .ensures .0)
@@ -37,7 +33,7 @@ returns-5 : tie.Need-returns-5
 returns-5 c = rw (c .before .match .keys5, c .luti-size2 .ensures .0)
 
 returns-6 : tie.Need-returns-6
-returns-6 c = rw (c .before .match .keys6, c .narrow-tsz .ensures)
+returns-6 c = let w = c .before .args .word in rw (c .match .keys6) (not-both-zero 3 (w / 0x400000 % 2) (w / 0x80000 % 4))
 
 returns-7 : tie.Need-returns-7
 returns-7 c = let a = c .before .args in sym (List·getD-eq-default (map (λ (r : Row). r .condition (fieldsOf (r .layout) (a .word))) rows) _ {n = a .place} (omega arith))
@@ -46,10 +42,8 @@ pub condition-spec : {M : Type 1} → statement M
 condition-spec =
     tie.close
     (tie.spec
-    dup-tsz-requires
     luti-size-requires
     luti-size-requires-2
-    narrow-tsz-requires
     returns
     returns-2
     returns-3

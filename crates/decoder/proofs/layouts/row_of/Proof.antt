@@ -6,7 +6,7 @@ use native.Mathlib.Omega.{arith}
 use lib.ListN.{length, drop}
 use Rattle.encoding.specs.Rows.{rows}
 use Rattle.encoding.specs.Forms.{placeFirst}
-use Rattle.decoder.proofs.Search.{turned}
+use Rattle.decoder.proofs.Search.{tested, turned}
 use borrow.Author.Needs.{needs}
 use Rattle.decoder.proofs.layouts.row_of.Statement.{statement}
 use Rattle.decoder.proofs.layouts.row_of.Tie as tie
@@ -42,7 +42,7 @@ loop-again c =
     let k = l .loop .k - 1 in
     let h : k < length rows = omega arith in
     let e : l .loop .k ≡ suc k = omega arith in
-    (omega arith, turned k (l .loop .k) _ _ h e (l .loop .inv .1) (c .before .before .has-layout .ensures) (c .before .rest .ensures) (c .earlier .ensures))
+    (omega arith, turned k (l .loop .k) _ _ h e (l .loop .inv .1) (tested k _ _ h (c .before .before .has-layout .ensures) (c .before .rest .ensures)) (c .earlier .ensures))
 
 returns : tie.Need-returns Inv-loop μ-loop
 returns c =

@@ -1,6 +1,0 @@
-//! This interpreter against the reference, by the tests all of them share.
-
-use tuned as interpreter;
-
-#[path = "../../against-reference/mod.rs"]
-mod against_reference;
