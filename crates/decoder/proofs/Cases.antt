@@ -13,7 +13,7 @@ use Rattle.setting.specs.Numbers.{refuse}
 use Rattle.setting.specs.declared.Setting.{Setting}
 use Rattle.element.proofs.Below.{below}
 use Rattle.encoding.specs.Rows.{Row, rows, rowMatches}
-use Rattle.encoding.specs.Forms.{placeFirst, placeIn}
+use Rattle.encoding.specs.Places.{placeFirst, placeIn}
 use Rattle.encoding.specs.Decode.{firstOf, readAt, decodeOf}
 use Rattle.encoding.proofs.Apart.{decide}
 use Rattle.encoding.proofs.Choice.{first-is-read}

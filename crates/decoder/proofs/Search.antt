@@ -14,7 +14,7 @@ use Rattle.element.specs.Every.{all}
 use Rattle.element.proofs.Below.{below}
 use Rattle.encoding.specs.Layout.{Piece, fieldsOf, matches}
 use Rattle.encoding.specs.Rows.{Row, rows, rowMatches}
-use Rattle.encoding.specs.Forms.{layoutAt, hasLayout, placeFirst}
+use Rattle.encoding.specs.Places.{layoutAt, hasLayout, placeFirst}
 use Rattle.encoding.proofs.Choice.{matchesAt, place-is}
 use Rattle.encoding.proofs.Round.{rows-disjoint}
 use Rattle.decoder.specs.Rest.{restAt}
@@ -44,7 +44,7 @@ without-rest k f w l h e = sym (tested k f w l refl h) ∙ ap (λ (x : Bool). ha
 -- ---- by turns, in any order that has every place
 -- the turn of each place
 abbrev turnOf : ℕ → ℕ
-turnOf k = getD (0 ∷ 1 ∷ 3 ∷ 4 ∷ 5 ∷ 2 ∷ []) k (length rows)
+turnOf k = getD (0 ∷ 2 ∷ 3 ∷ 4 ∷ 5 ∷ 1 ∷ []) k (length rows)
 
 abbrev has-a-turn : ℕ → Bool
 has-a-turn k = ltb (turnOf k) (length rows)

@@ -2,7 +2,7 @@
 ghost use mathlib.Core.Path.{_≡_};
 ghost use Rattle.element.specs.Size.{pick};
 ghost use Rattle.encoding.specs.Rows.{rows};
-ghost use Rattle.encoding.specs.Forms.{placeFirst};
+ghost use Rattle.encoding.specs.Places.{placeFirst};
 ghost use Rattle.decoder.specs.Rest.{conditionAt, restAt};
 use crate::fields;
 use encoding::table;
@@ -55,7 +55,7 @@ pub(crate) fn row_of(features: u32, word: u32) -> usize
 }
 
 // The places in the order in which they are tried by turns: the words that take least time come first.
-const TURNS: [usize; ROWS] = [0, 1, 5, 2, 3, 4];
+const TURNS: [usize; ROWS] = [0, 5, 1, 2, 3, 4];
 
 // The same, by turns, up to one that matches: no word has two layouts, so the order is free. In a run the same words come again,
 // and each branch is foreseen.

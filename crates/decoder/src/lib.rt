@@ -6,7 +6,7 @@ mod layouts;
 ghost use mathlib.Core.Path.{_≡_};
 ghost use Rattle.encoding.specs.Decode.{readAt, decodeOf, decodedAs};
 ghost use Rattle.encoding.specs.Rows.{rows};
-ghost use Rattle.encoding.specs.Forms.{placeFirst, placeIn};
+ghost use Rattle.encoding.specs.Places.{placeFirst, placeIn};
 use encoding::Decoded;
 use encoding::table::ROWS;
 use setting::Answer;

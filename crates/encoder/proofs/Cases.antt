@@ -8,7 +8,7 @@ use Rattle.setting.specs.declared.Setting.{Setting}
 use Rattle.encoding.specs.Layout.{wordOf}
 use Rattle.encoding.specs.Instructions.{inRange, rawOf}
 use Rattle.encoding.specs.Rows.{rowOf, placeOf}
-use Rattle.encoding.specs.Forms.{featuresAt}
+use Rattle.encoding.specs.Places.{featuresAt}
 use Rattle.encoding.specs.Encode.{written, unwritten, encodeOf}
 use Rattle.encoding.specs.declared.Instruction.{Instruction}
 use Rattle.encoding.proofs.Round.{column-at-place}

@@ -10,7 +10,7 @@ use Rattle.element.specs.Units.{logOf}
 use Rattle.element.proofs.Tests.{both-yes}
 use Rattle.encoding.specs.Layout.{wordOf, fixedOf}
 use Rattle.encoding.specs.Instructions.{pextInRange, inRange, rawDupBits, rawOf}
-use Rattle.encoding.specs.Forms.{layoutAt}
+use Rattle.encoding.specs.Places.{layoutAt}
 use Rattle.encoding.specs.Rows.{rowOf, placeOf, pext1, pext2, dup, luti4c, luti4s, uqrshrnb}
 use Rattle.encoding.specs.declared.Instruction.{Instruction}
 use Rattle.encoding.specs.declared.Instruction.the-variants.{Pext1, Pext2, Dup, Luti4c, Luti4s, Uqrshrnb}

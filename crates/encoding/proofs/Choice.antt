@@ -10,7 +10,7 @@ use Rattle.setting.specs.Numbers.{accept, refuse}
 use Rattle.element.proofs.Below.{both}
 use Rattle.encoding.specs.Layout.{fieldsOf, matches}
 use Rattle.encoding.specs.Rows.{Row, rowMatches}
-use Rattle.encoding.specs.Forms.{placeFirst}
+use Rattle.encoding.specs.Places.{placeFirst}
 use Rattle.encoding.specs.Decode.{firstOf, readAt}
 use Rattle.encoding.specs.Claims.{noRow, countRows}
 use Rattle.encoding.specs.declared.Instruction.{Instruction}

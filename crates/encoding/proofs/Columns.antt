@@ -14,7 +14,7 @@ use Rattle.element.proofs.Below.{below}
 use Rattle.element.proofs.Shared.{shares-none, or-shares, shares-power}
 use Rattle.encoding.specs.Layout.{Piece, width, matches, fixedOf}
 use Rattle.encoding.specs.Rows.{Row, rows}
-use Rattle.encoding.specs.Forms.{layoutAt, featuresAt, featureBits, hasLayout}
+use Rattle.encoding.specs.Places.{layoutAt, featuresAt, featureBits, hasLayout}
 use Rattle.encoding.proofs.LayoutLaws.{sound, maskOf, matches-masked, masked-matches}
 use Rattle.encoding.proofs.Apart.{decide}
 

@@ -15,7 +15,7 @@ use Rattle.element.proofs.Tests.{both-yes}
 use Rattle.encoding.specs.Layout.{width, fieldsOf, wordOf, matches}
 use Rattle.encoding.specs.Instructions.{inRange, rawOf}
 use Rattle.encoding.specs.Rows.{Row, rows, rowOf, rowMatches, placeOf, pext1, pext2, dup, luti4c, luti4s, uqrshrnb}
-use Rattle.encoding.specs.Forms.{placeFirst}
+use Rattle.encoding.specs.Places.{placeFirst}
 use Rattle.encoding.specs.Decode.{firstOf, decodeOf, readAt}
 use Rattle.encoding.specs.Encode.{Written, written, encodeOf}
 use Rattle.encoding.specs.Claims.{UndefinedExactly, OneLayout, DecodeEncode, EncodeDecode}

@@ -3,6 +3,6 @@ pub mod Instructions
 pub mod Rows
 pub mod Decode
 pub mod Encode
-pub mod Forms
+pub mod Places
 pub mod Points
 pub mod Claims

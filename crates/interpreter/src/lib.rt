@@ -22,6 +22,23 @@ use machine::Stepped;
 use setting::Answer;
 use setting::Setting;
 
+// The same scalars, each taken by itself: where a caller steps again and again, PC is then read as the step before stored it, and
+// not together with its neighbours, for which the processor would wait.
+fn one_by_one(scalars: Scalars) -> Scalars
+    ensures { λ r. ⌜ r ≡ scalars ⌝ }
+{
+    Scalars {
+        w12: scalars.w12,
+        w13: scalars.w13,
+        w14: scalars.w14,
+        w15: scalars.w15,
+        pc: scalars.pc,
+        v: scalars.v,
+        s: scalars.s,
+        t: scalars.t,
+    }
+}
+
 fn advance(scalars: Scalars) -> Scalars
     ensures { λ r. ⌜ r ≡ advanced scalars ⌝ }
 {
@@ -126,8 +143,27 @@ fn checked_run(
     Answer::Done
 }
 
-// A stretch of at most 256 words, stepped one after the other; it stops before the first that is refused. ZT0 is lent for words
-// to come that write it; today it stays.
+// At most 256 words, stepped one after the other; it stops before the first that is refused. How many were done is left in `done`.
+fn went(
+    z: &mut [u8],
+    p: &mut [u8],
+    zt: &[u8],
+    scalars: Scalars,
+    setting: Setting,
+    words: &[u32],
+    done: &mut u32,
+) -> Answer
+    ensures { λ r. ⌜ (wentAs (numberOf r) (now (done .exit)) (now (z .exit)) (now (p .exit)) (now (zt .entry)) scalars ≡ runOf setting (now (words .entry)) (machine (now (z .entry)) (now (p .entry)) (now (zt .entry)) scalars)) × (now (done .exit) ≤ 256) ⌝ }
+{
+    let refused = before_any(setting, z.len(), p.len(), zt.len(), words.len());
+    if setting::number(refused) != 0 {
+        *done = 0;
+        return refused;
+    }
+    checked_run(z, p, zt, scalars, setting, words, done)
+}
+
+// A stretch of words. ZT0 is lent for words to come that write it; today it stays.
 pub fn run(
     z: &mut [u8],
     p: &mut [u8],
@@ -138,16 +174,8 @@ pub fn run(
 ) -> Ran
     ensures { λ r. ⌜ ranAs r (now (z .exit)) (now (p .exit)) (now (zt .exit)) ≡ runOf setting (now (words .entry)) (machine (now (z .entry)) (now (p .entry)) (now (zt .entry)) scalars) ⌝ }
 {
-    let refused = before_any(setting, z.len(), p.len(), zt.len(), words.len());
-    if setting::number(refused) != 0 {
-        return Ran {
-            answer: refused,
-            done: 0,
-            scalars,
-        };
-    }
     let mut done: u32 = 0;
-    let answer = checked_run(z, p, zt, scalars, setting, words, &mut done);
+    let answer = went(z, p, zt, scalars, setting, words, &mut done);
     Ran {
         answer,
         done: done as usize,
@@ -155,8 +183,7 @@ pub fn run(
     }
 }
 
-// One word, as a run of it. The scalars are taken one by one: where a caller steps again and again, PC is then read as it was
-// stored, and not together with its neighbours, for which the processor would wait.
+// One word: a run of it.
 pub fn step(
     z: &mut [u8],
     p: &mut [u8],
@@ -168,18 +195,11 @@ pub fn step(
     ensures { λ r. ⌜ steppedAs r (now (z .exit)) (now (p .exit)) (now (zt .exit)) ≡ stepOf setting word (machine (now (z .entry)) (now (p .entry)) (now (zt .entry)) scalars) ⌝ }
 {
     let words = [word];
-    let held = Scalars {
-        w12: scalars.w12,
-        w13: scalars.w13,
-        w14: scalars.w14,
-        w15: scalars.w15,
-        pc: scalars.pc,
-        v: scalars.v,
-        s: scalars.s,
-        t: scalars.t,
-    };
-    let ran = run(z, p, zt, held, setting, &words);
-    let answer = ran.answer;
-    let scalars = ran.scalars;
-    Stepped { answer, scalars }
+    let mut done: u32 = 0;
+    let held = one_by_one(scalars);
+    let answer = went(z, p, zt, held, setting, &words, &mut done);
+    Stepped {
+        answer,
+        scalars: moved_on(held, done),
+    }
 }

@@ -6,7 +6,7 @@ use lib.ListN.{length}
 use Rattle.setting.specs.Numbers.{Outcome, accept, refuse}
 use Rattle.encoding.specs.Instructions.{rawOf}
 use Rattle.encoding.specs.Rows.{rows}
-use Rattle.encoding.specs.Forms.{placeIn}
+use Rattle.encoding.specs.Places.{placeIn}
 use Rattle.encoding.specs.Decode.{decodeOf}
 use Rattle.encoding.specs.declared.Instruction.{Instruction}
 use Rattle.encoding.proofs.Round.{column-at-place, place-lt}

@@ -12,7 +12,7 @@ use Rattle.setting.specs.declared.Answer.{Answer}
 use Rattle.setting.specs.declared.Feature.the-variants.{Sve2p1}
 use Rattle.element.specs.Size.{pick}
 use Rattle.encoding.specs.Rows.{rows}
-use Rattle.encoding.specs.Forms.{placeFirst}
+use Rattle.encoding.specs.Places.{placeFirst}
 use Rattle.encoding.specs.Decode.{firstOf, readAt}
 use Rattle.encoding.specs.declared.Instruction.{Instruction}
 use Rattle.encoding.specs.declared.Instruction.the-variants.{Pext1, Pext2, Dup, Luti4c, Luti4s, Uqrshrnb}

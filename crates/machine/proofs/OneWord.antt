@@ -3,14 +3,13 @@ use mathlib.Core.Path.{_≡_, refl, sym, ap, _∙_}
 use mathlib.Core.List.{List, [], _∷_}
 use Prim.Native.Nat.{ℕ, zero, suc}
 use native.Mathlib.Omega.{arith}
-use Rattle.setting.specs.Numbers.{numberOf}
 use Rattle.setting.specs.declared.Setting.{Setting}
 use Rattle.order.specs.Steps.{Ended, steps}
 use Rattle.machine.specs.Machine.{Machine}
 use Rattle.machine.specs.Step.{refusalOf, execOf, after, stepOf, stepAs}
-use Rattle.machine.specs.Run.{refusedBefore, runOf, ranOnce, ranAs}
+use Rattle.machine.specs.Run.{refusedBefore, runOf, ranOnce, runAs}
 use Rattle.machine.specs.Claims.{RunOfOneWord}
-use Rattle.machine.specs.declared.Ran.{Ran}
+use Rattle.machine.specs.declared.Scalars.{Scalars}
 use Rattle.machine.proofs.Steps.{step-not-begun}
 use Rattle.machine.proofs.Runs.{run-not-begun, run-begun}
 
@@ -31,6 +30,6 @@ run-of-one-word s w m = go (refusedBefore s (w ∷ []) m) refl
     go (suc k) r =
         sym (run-not-begun s (w ∷ []) m (suc k) (sym r) (λ e. omega arith)) ∙ ap ranOnce (step-not-begun s w m (suc k) (sym r) (λ e. omega arith))
 
--- so what a run of one word answers is what a step does
-pub step-of-run : (s : Setting) (w : ℕ) (m : Machine) (r : Ran) (z p zt : List ℕ) → ranAs r z p zt ≡ runOf s (w ∷ []) m → stepAs (numberOf (r .answer)) z p zt (r .scalars) ≡ stepOf s w m
-step-of-run s w m r z p zt e = ap (λ (x : Ended Machine). record { number = x .answer; left = x .left }) (e ∙ run-of-one-word s w m)
+-- so what a run of one word leaves is what a step does
+pub step-of-run : (s : Setting) (w : ℕ) (m : Machine) (a n : ℕ) (z p zt : List ℕ) (c : Scalars) → runAs a n z p zt c ≡ runOf s (w ∷ []) m → stepAs a z p zt c ≡ stepOf s w m
+step-of-run s w m a n z p zt c e = ap (λ (x : Ended Machine). record { number = x .answer; left = x .left }) (e ∙ run-of-one-word s w m)

@@ -7,7 +7,7 @@ use Rattle.setting.specs.Allowed.{lengthAllowed, allowedOf}
 use Rattle.order.specs.Steps.{Ended}
 use Rattle.order.specs.Touch.{gets, puts}
 use Rattle.encoding.specs.Rows.{rows}
-use Rattle.encoding.specs.Forms.{placeFirst}
+use Rattle.encoding.specs.Places.{placeFirst}
 use Rattle.encoding.specs.Instructions.{inRange}
 use Rattle.encoding.specs.declared.Instruction.{Instruction}
 use Rattle.machine.specs.Machine.{Machine, machine, get, put, next, advanced, flagsOf}

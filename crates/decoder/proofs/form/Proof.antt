@@ -1,7 +1,7 @@
 -- `form` meets its contract: the place of the first row that matches is the place of the form that is read.
 use mathlib.Core.Path.{ap}
 use Rattle.element.proofs.Tests.{said-no, said-yes}
-use Rattle.encoding.specs.Forms.{placeIn}
+use Rattle.encoding.specs.Places.{placeIn}
 use Rattle.decoder.proofs.Cases.{decode-not-allowed, form-place}
 use borrow.Author.Needs.{needs}
 use Rattle.decoder.proofs.form.Statement.{statement}

@@ -1,25 +1,13 @@
--- `run` meets its contract: 1, 2 and 8 are tested, and the rest is `checked_run`.
-use mathlib.Core.Path.{sym, _∙_}
-use Rattle.machine.proofs.Steps.{checked-before}
-use Rattle.machine.proofs.Runs.{run-not-begun, run-begun}
+-- `run` meets its contract: what went, with PC moved by the words done.
 use borrow.Author.Needs.{needs}
 use Rattle.interpreter.proofs.run.Statement.{statement}
 use Rattle.interpreter.proofs.run.Tie as tie
 
-before-any-requires : tie.Need-before-any-requires
-before-any-requires c κs = search needs
-
-number-requires : tie.Need-number-requires
-number-requires c κs = search needs
-
-returns : tie.Need-returns
-returns c = run-not-begun _ _ _ _ (c .before .before .before-any .ensures) (λ e. c .if1 .taken (c .before .number .ensures ∙ e))
-
-checked-run-requires : tie.Need-checked-run-requires
-checked-run-requires c κs = checked-before _ _ _ (sym (c .before .before .before .before .if1 .left) ∙ c .before .before .before .before .before .number .ensures ∙ c .before .before .before .before .before .before .before-any .ensures)
+went-requires : tie.Need-went-requires
+went-requires c κs = search needs
 
 moved-on-requires : tie.Need-moved-on-requires
-moved-on-requires c κs = c .before .before .before .before .before .checked-run .ensures .1
+moved-on-requires c κs = c .before .before .before .before .before .went .ensures .1
 
 same-length : tie.Need-same-length
 same-length c = search needs
@@ -30,19 +18,9 @@ same-length-2 c = search needs
 same-length-3 : tie.Need-same-length-3
 same-length-3 c = search needs
 
-returns-2 : tie.Need-returns-2
-returns-2 c = rw (c .moved-on .ensures) (c .before .before .before .before .before .before .checked-run .ensures .0 ∙ run-begun _ _ _ (sym (c .before .before .before .before .before .before .before .before .before .before .before .if1 .left) ∙ c .before .before .before .before .before .before .before .before .before .before .before .before .number .ensures ∙ c .before .before .before .before .before .before .before .before .before .before .before .before .before .before-any .ensures))
+returns : tie.Need-returns
+returns c = rw (c .moved-on .ensures) (c .before .before .before .before .before .before .went .ensures .0)
 
 pub run-spec : {M : Type 1} → statement M
 run-spec =
-    tie.close
-    (tie.spec
-    before-any-requires
-    number-requires
-    returns
-    checked-run-requires
-    moved-on-requires
-    same-length
-    same-length-2
-    same-length-3
-    returns-2)
+    tie.close (tie.spec went-requires moved-on-requires same-length same-length-2 same-length-3 returns)

@@ -9,8 +9,9 @@
 //! median and the minimum of the rounds' ratios, each side's least time, and
 //! the ratio of these. (A round in which the baseline alone was interrupted
 //! makes a minimum that says nothing: read the median.) The last rows time
-//! single steps: words that are done, of each form, with the same bars, and
-//! words that are refused, undefined and for a closed flag.
+//! single steps, for information: words that are done, of each form, and words
+//! that are refused, undefined and for a closed flag. Their one bar is 2.5, at VL
+//! 128.
 //!
 //! The files are random, and no word of a form's row writes what one of them
 //! reads, so that the sources stay random: DUP's chosen element is true about

@@ -15,7 +15,7 @@ use Rattle.decoder.proofs.layouts.row_by_turns.Tie as tie
 
 -- the code's order
 abbrev turns : List ℕ
-turns = 0 ∷ 1 ∷ 5 ∷ 2 ∷ 3 ∷ 4 ∷ []
+turns = 0 ∷ 5 ∷ 1 ∷ 2 ∷ 3 ∷ 4 ∷ []
 
 abbrev Inv-loop : tie.InvT-loop
 Inv-loop features word n₀ n = (n ≤ length rows) × Passed features word n

@@ -5,7 +5,7 @@ use native.Mathlib.Nat.{zero-add}
 use native.Mathlib.Omega.{arith}
 use lib.ListN.{length, drop}
 use Rattle.encoding.specs.Rows.{rows}
-use Rattle.encoding.specs.Forms.{placeFirst}
+use Rattle.encoding.specs.Places.{placeFirst}
 use Rattle.decoder.proofs.Search.{tested, turned}
 use borrow.Author.Needs.{needs}
 use Rattle.decoder.proofs.layouts.row_of.Statement.{statement}
