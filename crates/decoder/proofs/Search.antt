@@ -11,7 +11,7 @@ use borrow.Author.Tests.{lt-ltb}
 use Rattle.setting.specs.Allowed.{hasAny}
 use Rattle.element.specs.Size.{pick}
 use Rattle.element.specs.Every.{all}
-use Rattle.element.proofs.Below.{below}
+use Rattle.element.proofs.Below.{both, below}
 use Rattle.encoding.specs.Layout.{Piece, fieldsOf, matches}
 use Rattle.encoding.specs.Rows.{Row, rows, rowMatches}
 use Rattle.encoding.specs.Places.{layoutAt, hasLayout, placeFirst}
@@ -42,34 +42,35 @@ pub without-rest : (k f w : ℕ) {b : Bool} → k < length rows → b ≡ restAt
 without-rest k f w l h e = sym (tested k f w l refl h) ∙ ap (λ (x : Bool). hasLayout k w && x) e ∙ and-false (hasLayout k w)
 
 -- ---- by turns, in any order that has every place
--- the turn of each place
-abbrev turnOf : ℕ → ℕ
-turnOf k = getD (0 ∷ 2 ∷ 3 ∷ 4 ∷ 5 ∷ 1 ∷ []) k (length rows)
+-- the first turn of a place; the number of turns where it has none
+abbrev pub turnOf : List ℕ → ℕ → ℕ
+turnOf [] k = 0
+turnOf (t ∷ ts) k = pick (eqb t k) 0 (suc (turnOf ts k))
 
-abbrev has-a-turn : ℕ → Bool
-has-a-turn k = ltb (turnOf k) (length rows)
-
--- what a list of turns must meet: each is a place, and each place comes at its turn
+-- what a list of turns must meet: each is a place, and each place has a turn, at which it comes
 abbrev pub is-a-place : List ℕ → ℕ → Bool
 is-a-place turns n = ltb (getD turns n 0) (length rows)
 
-abbrev pub comes-at-its-turn : List ℕ → ℕ → Bool
-comes-at-its-turn turns k = eqb (getD turns (turnOf k) 0) k
+abbrev pub has-its-turn : List ℕ → ℕ → Bool
+has-its-turn turns k = ltb (turnOf turns k) (length rows) && eqb (getD turns (turnOf turns k) 0) k
+
+its-turn : (turns : List ℕ) (k : ℕ) → T (all (has-its-turn turns) (length rows)) → k < length rows → (turnOf turns k < length rows) × (getD turns (turnOf turns k) 0 ≡ k)
+its-turn turns k t l =
+    let p = both (ltb (turnOf turns k) (length rows)) (eqb (getD turns (turnOf turns k) 0) k) (below (has-its-turn turns) (length rows) t k l) in
+    (ltb→lt (turnOf turns k) (length rows) (p .0), eqb→eq (getD turns (turnOf turns k) 0) k (p .1))
 
 pub turn-lt : (turns : List ℕ) → T (all (is-a-place turns) (length rows)) → (n : ℕ) → n < length rows → getD turns n 0 < length rows
 turn-lt turns t n h = ltb→lt (getD turns n 0) (length rows) (below (is-a-place turns) (length rows) t n h)
 
 -- no row whose turn has passed matches
-abbrev pub Passed : ℕ → ℕ → ℕ → Type 0
-Passed f w n = (k : ℕ) → k < length rows → turnOf k < n → matchesAt rows k f w ≡ false
+abbrev pub Passed : List ℕ → ℕ → ℕ → ℕ → Type 0
+Passed turns f w n = (k : ℕ) → k < length rows → turnOf turns k < n → matchesAt rows k f w ≡ false
 
-pub passed-more : (turns : List ℕ) (f w n : ℕ) → T (all (comes-at-its-turn turns) (length rows)) → Passed f w n → matchesAt rows (getD turns n 0) f w ≡ false → Passed f w (n + 1)
-passed-more turns f w n t h e k l m = go (ℕ-discrete (turnOf k) n)
+pub passed-more : (turns : List ℕ) (f w n : ℕ) → T (all (has-its-turn turns) (length rows)) → Passed turns f w n → matchesAt rows (getD turns n 0) f w ≡ false → Passed turns f w (n + 1)
+passed-more turns f w n t h e k l m = go (ℕ-discrete (turnOf turns k) n)
   where
-    go : Dec (turnOf k ≡ n) → matchesAt rows k f w ≡ false
-    go (yes q) =
-        let c : getD turns (turnOf k) 0 ≡ k = eqb→eq (getD turns (turnOf k) 0) k (below (comes-at-its-turn turns) (length rows) t k l) in
-        ap (λ (x : ℕ). matchesAt rows x f w) (sym c ∙ ap (λ (x : ℕ). getD turns x 0) q) ∙ e
+    go : Dec (turnOf turns k ≡ n) → matchesAt rows k f w ≡ false
+    go (yes q) = ap (λ (x : ℕ). matchesAt rows x f w) (sym (its-turn turns k t l .1) ∙ ap (λ (x : ℕ). getD turns x 0) q) ∙ e
     go (no q) = h k l (omega arith)
 
 none-place : (rs : List Row) (f w : ℕ) → ((k : ℕ) → k < length rs → matchesAt rs k f w ≡ false) → placeFirst rs f w ≡ length rs
@@ -77,11 +78,8 @@ unfolding placeFirst
 none-place [] f w n = refl
 none-place (r ∷ rs) f w n = rw (n 0 (omega arith)) (ap suc (none-place rs f w (λ k l. n (suc k) (omega arith))))
 
-pub none-found : (f w n : ℕ) → Passed f w n → length rows ≤ n → length rows ≡ placeFirst rows f w
-none-found f w n h l = sym (none-place rows f w each)
-  where
-    each : (k : ℕ) → k < length rows → matchesAt rows k f w ≡ false
-    each k m = let i = ltb→lt (turnOf k) (length rows) (below has-a-turn (length rows) tt k m) in h k m (omega arith)
+pub none-found : (turns : List ℕ) (f w n : ℕ) → T (all (has-its-turn turns) (length rows)) → Passed turns f w n → length rows ≤ n → length rows ≡ placeFirst rows f w
+none-found turns f w n t h l = sym (none-place rows f w (λ k m. h k m (omega (arith, its-turn turns k t m .0))))
 
 -- one row at most matches, so one that does is the first
 pub found : (k f w : ℕ) → matchesAt rows k f w ≡ true → k ≡ placeFirst rows f w

@@ -2,7 +2,7 @@
 use mathlib.Core.Path.{_≡_, refl}
 use mathlib.Core.Bool.{Bool, true, false, _&&_, _||_}
 use mathlib.Core.List.{List, [], _∷_}
-use Prim.Native.Nat.{ℕ, _+_, _-_, _%_, _<_}
+use Prim.Native.Nat.{ℕ, _+_, _-_, _*_, _%_, _<_}
 use native.Mathlib.Omega.{arith}
 use lib.Dec.{T, eqb, ltb, leb}
 use lib.ListN.{length, getD}
@@ -19,7 +19,7 @@ use Rattle.encoding.specs.declared.Instruction.{Instruction}
 use Rattle.encoding.specs.declared.Instruction.the-variants.{Pext1, Pext2, Dup, Luti4c, Luti4s, Uqrshrnb}
 use Rattle.encoding.proofs.FieldBits.{strided-zd}
 use Rattle.encoding.proofs.InRange.{pext-ranges, dup-ranges, luti-ranges, narrow-ranges}
-use Rattle.machine.specs.Machine.{Machine, put, Flags}
+use Rattle.machine.specs.Machine.{Machine, Z, ZT0, put, Flags}
 use Rattle.machine.specs.Needs.{Need, need}
 use Rattle.machine.specs.Effects.{effectOf}
 
@@ -50,6 +50,10 @@ by-feature : (b : Bool) (f : Flags) → T (atMostSix (pick b (need 4 (f .v)) (ne
 by-feature true f = tt
 by-feature false f = tt
 
+-- LUTI4's source, the table and four destinations a gap apart, of which the last is a register
+four-known : (zn a gap : ℕ) → zn < 32 → a + 3 * gap < 32 → Known (Z zn) × Known ZT0 × Known (Z a) × Known (Z (a + gap)) × Known (Z (a + 2 * gap)) × Known (Z (a + 3 * gap))
+four-known zn a gap h l = (h, omega arith, omega arith, omega arith, omega arith, l)
+
 pub fine : (i : Instruction) → Fine i
 unfolding puts put
 fine (Pext1 size imm2 counter pd) = record {
@@ -77,12 +81,8 @@ fine (Luti4c size i1 zn zd) = record {
   known = λ e.
       let g = luti-ranges (eqb size 16 || eqb size 32) i1 zn (eqb (zd % 4) 0 && leb zd 28) e in
       let most = leb-true zd 28 (both-yes (eqb (zd % 4) 0) (leb zd 28) (g .3) .1) in
-      let l : 0 < 1 = omega arith in
-      let a : zd < 32 = omega arith in
-      let b : zd + 1 < 32 = omega arith in
-      let c : zd + 2 < 32 = omega arith in
-      let d : zd + 3 < 32 = omega arith in
-      search (g .2, l, a, b, c, d);
+      let k = four-known zn zd 1 (g .2) (omega arith) in
+      search (k .0, k .1, k .2, k .3, k .4, k .5);
 }
 fine (Luti4s size i1 zn zd) = record {
   refused-small = λ s f. tt;
@@ -91,12 +91,8 @@ fine (Luti4s size i1 zn zd) = record {
   known = λ e.
       let g = luti-ranges (eqb size 16) i1 zn (ltb zd 4 || (leb 16 zd && ltb zd 20)) e in
       let d = strided-zd zd (g .3) in
-      let l : 0 < 1 = omega arith in
-      let a : zd < 32 = omega arith in
-      let b : zd + 4 < 32 = omega arith in
-      let c : zd + 8 < 32 = omega arith in
-      let f : zd + 12 < 32 = omega arith in
-      search (g .2, l, a, b, c, f);
+      let k = four-known zn zd 4 (g .2) (omega arith) in
+      search (k .0, k .1, k .2, k .3, k .4, k .5);
 }
 fine (Uqrshrnb size shift zn zd) = record {
   refused-small = λ s f. tt;

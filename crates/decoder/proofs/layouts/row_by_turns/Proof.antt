@@ -18,7 +18,7 @@ abbrev turns : List ℕ
 turns = 0 ∷ 5 ∷ 1 ∷ 2 ∷ 3 ∷ 4 ∷ []
 
 abbrev Inv-loop : tie.InvT-loop
-Inv-loop features word n₀ n = (n ≤ length rows) × Passed features word n
+Inv-loop features word n₀ n = (n ≤ length rows) × Passed turns features word n
 
 abbrev μ-loop : tie.MeasureT-loop
 μ-loop features word n₀ n = length rows - n
@@ -65,7 +65,7 @@ loop-again c =
     (omega arith, passed-more turns (a .features) (a .word) n tt (x .loop .inv .1) no)
 
 returns-2 : tie.Need-returns-2 Inv-loop μ-loop
-returns-2 c = let l = c .before .loop in none-found _ _ (l .n) (l .inv .1) (omega arith)
+returns-2 c = let l = c .before .loop in none-found turns _ _ (l .n) tt (l .inv .1) (omega arith)
 
 pub row-by-turns-spec : {M : Type 1} → statement M
 row-by-turns-spec =
