@@ -23,7 +23,7 @@ fn answered(vl: u32, register: u32, registers: u32, length: usize, whole: usize)
 pub fn vector<'a>(file: &'a [u8], vl: u32, register: u32) -> &'a [u8]
     ensures { λ r. ⌜ now r ≡ vectorOf (now (file .entry)) vl register ⌝ }
 {
-    if !answered(vl, register, 32, file.len(), 8192) {
+    if !answered(vl, register, 32, file.len(), element::VECTOR_FILE) {
         return &file[..0];
     }
     let at = 256 * (register as usize);
@@ -35,7 +35,7 @@ pub fn vector<'a>(file: &'a [u8], vl: u32, register: u32) -> &'a [u8]
 pub fn predicate<'a>(file: &'a [u8], vl: u32, register: u32) -> &'a [u8]
     ensures { λ r. ⌜ now r ≡ predicateOf (now (file .entry)) vl register ⌝ }
 {
-    if !answered(vl, register, 16, file.len(), 512) {
+    if !answered(vl, register, 16, file.len(), element::PREDICATE_FILE) {
         return &file[..0];
     }
     let at = 32 * (register as usize);

@@ -1,6 +1,6 @@
 pub mod Lengths
-pub mod StripLaws
+pub mod Masks
 pub mod Words
-pub mod Rows
+pub mod Packed
 pub mod Parts
 pub mod BoardPoints

@@ -1,45 +1,27 @@
--- The whole expansion and a portion are strips of it, bit by bit; a strip with zeros behind it is the mask; and what the tests before an extraction say.
+-- A portion is a sample of the expansion at the counter's own size, bit by bit; and what the tests before an extraction say.
 use mathlib.Core.Path.{_≡_, refl, sym, ap, _∙_}
-use mathlib.Core.Bool.{Bool, true, false, _&&_}
+use mathlib.Core.Bool.{Bool, true, false, _&&_, and-comm}
 use mathlib.Core.Logic.{inl, inr}
-use mathlib.Core.List.{List, _++_}
 use Prim.Native.Nat.{ℕ, _+_, _-_, _*_, _/_, _%_, _^_, _≤_, _<_}
 use native.Mathlib.Nat.{add-mul, mul-assoc, mul-left-comm, mul-le-mul}
 use native.Mathlib.Omega.{arith}
 use lib.Dec.{eqb, ltb}
-use lib.ListN.{length, drop, replicate, length-replicate, replicate-append-replicate}
-use lib.Seq.{drop-at}
-use borrow.Author.Tests.{eq-eqb, eqb-true, ltb-true}
+use borrow.Author.Tests.{eqb-true, ltb-true}
 use Rattle.setting.specs.Allowed.{lengthAllowed}
 use Rattle.setting.proofs.Lengths.{length-cases}
-use Rattle.element.specs.Size.{isSize}
-use Rattle.element.specs.Contents.{row}
-use Rattle.element.specs.Units.{Log, sizeAt}
+use Rattle.element.specs.Size.{isSize, zeros}
+use Rattle.element.specs.Contents.{packed}
+use Rattle.element.specs.Units.{sizeAt}
+use Rattle.element.specs.Private.{Log}
 use Rattle.element.proofs.Tests.{both-yes}
 use Rattle.element.proofs.Units.{unit, whole, back, unit-of, elements, is-size-at}
-use Rattle.element.proofs.Filling.{row-same, row-length}
-use Rattle.part.specs.Parts.{Width}
-use Rattle.counter.specs.Counter.{expansionBit, expansionOf, padded}
+use Rattle.element.proofs.Filling.{packed-same}
+use Rattle.part.specs.Private.{Width}
+use Rattle.counter.specs.Counter.{expansionBit}
 use Rattle.counter.specs.Portion.{portionBit, portionOf, extractable}
-use Rattle.counter.specs.Strips.{stripBit, Strip, Filled}
+use Rattle.counter.specs.Private.{sampledBit, Length, Filled}
 use Rattle.counter.proofs.Lengths.{length-is}
-
-pub expansion-strip : (vl c : ℕ) → row (stripBit vl c 0 0) (vl / 16) ≡ expansionOf vl c
-unfolding expansionOf stripBit
-expansion-strip vl c =
-    row-same (stripBit vl c 0 0) (expansionBit vl c) (vl / 16)
-    (λ b. let e : b % 2 ^ 0 ≡ 0 = omega arith in let z : 0 + b ≡ b = omega arith in rw (eq-eqb (b % 2 ^ 0) 0 e, z))
-
-drop-same : (n m v : ℕ) → drop n (replicate (n + m) v) ≡ replicate m v
-drop-same n m v = rw (← replicate-append-replicate n m v) (drop-at (replicate n v) (replicate m v) n (length-replicate n v))
-
-pub mask-is : (vl c : ℕ) (s : List ℕ) → vl ≤ 2048 → s ≡ expansionOf vl c → s ++ drop (vl / 16) (replicate 128 0) ≡ padded (expansionOf vl c)
-unfolding padded expansionOf
-mask-is vl c s h e =
-    let l = row-length (expansionBit vl c) (vl / 16) in
-    let r : vl / 16 + (128 - vl / 16) ≡ 128 = omega arith in
-    let d : drop (vl / 16) (replicate {A = ℕ} 128 0) ≡ replicate (128 - vl / 16) 0 = ap (λ (n : ℕ). drop (vl / 16) (replicate n 0)) (sym r) ∙ drop-same (vl / 16) (128 - vl / 16) 0 in
-    rw (e, d, l)
+use Rattle.counter.proofs.Masks.{own-size}
 
 -- where an element's place is asked only at a place, it may be written anew
 under : (a : Bool) (f : ℕ → Bool) (x y : ℕ) → (a ≡ true → x ≡ y) → (a && f x) ≡ (a && f y)
@@ -53,11 +35,14 @@ module _ (vl size p c s : ℕ) (even : vl % 128 ≡ 0) (l : Log size s) where
       let u = unit s (l .small) in
       rw (elements vl l, add-mul, mul-assoc, whole (2 ^ s) (vl / 8) u (omega arith), back (2 ^ s) b u h)
 
-  pub portion-strip : row (stripBit vl c s (p * (vl / 8))) (vl / 64) ≡ portionOf vl size p c
-  unfolding portionOf portionBit stripBit
-  portion-strip =
-      row-same (stripBit vl c s (p * (vl / 8))) (portionBit vl size p c) (vl / 64)
-      (λ b. rw (unit-of l) (sym (under (eqb (b % 2 ^ s) 0) (expansionBit vl c) ((p * (vl / size) + b / 2 ^ s) * 2 ^ s) (p * (vl / 8) + b) (λ e. place b (eqb-true (b % 2 ^ s) 0 e)))))
+  pub portion-sample : packed (sampledBit vl c (zeros c) s (p * (vl / 8))) (vl / 64) ≡ portionOf vl size p c
+  unfolding portionOf portionBit sampledBit
+  portion-sample =
+      packed-same (sampledBit vl c (zeros c) s (p * (vl / 8))) (portionBit vl size p c) (vl / 64)
+      (λ b.
+      ap (λ (x : Bool). x && eqb (b % 2 ^ s) 0) (own-size vl c (p * (vl / 8) + b))
+      ∙ and-comm (expansionBit vl c (p * (vl / 8) + b)) (eqb (b % 2 ^ s) 0)
+      ∙ rw (unit-of l) (sym (under (eqb (b % 2 ^ s) 0) (expansionBit vl c) ((p * (vl / size) + b / 2 ^ s) * 2 ^ s) (p * (vl / 8) + b) (λ e. place b (eqb-true (b % 2 ^ s) 0 e)))))
 
 -- a register's bytes are two, four or eights
 register-filled : (vl : ℕ) → lengthAllowed vl ≡ true → (vl / 64 < 8 → Width (vl / 64)) × (8 ≤ vl / 64 → vl / 64 % 8 ≡ 0)
@@ -81,7 +66,9 @@ start-whole p vl even =
 
 -- what the tests before an extraction say
 pub record Extractable (vl log p room : ℕ) : Type 0 where
-  pub strip : Strip vl log (p * (vl / 8))
+  pub length : Length vl
+  pub small : log < 4
+  pub start : p * (vl / 8) % 8 ≡ 0
   pub filled : Filled (p * (vl / 8)) room
   pub whole : room ≡ vl / 64
   pub fits : p * (vl / 8) ≤ 768
@@ -98,7 +85,9 @@ extractable-is vl log p room h =
     let f = start-fits p vl (ltb-true p 4 (b .1)) (l .most) in
     let w = register-filled vl (d .0) in
     record {
-      strip = record { length = l; small = ltb-true log 4 (sym (is-size-at log) ∙ d .1); whole = start-whole p vl (l .even) };
+      length = l;
+      small = ltb-true log 4 (sym (is-size-at log) ∙ d .1);
+      start = start-whole p vl (l .even);
       filled = rw e (record { few = w .0; many = w .1; fits = omega arith });
       whole = e;
       fits = f;

@@ -1,13 +1,11 @@
 -- Document 01, "Counter": the element size, the count, and the expansion of 4·PL bits, by bit.
 use mathlib.Core.Bool.{Bool, true, false, not, _&&_}
-use mathlib.Core.List.{List, [], _++_}
+use mathlib.Core.List.{List}
 use Prim.Native.Nat.{ℕ, _+_, _-_, _*_, _/_, _%_, _^_}
 use lib.Dec.{eqb, ltb}
 use lib.Count.{trailingZeros}
-use lib.ListN.{length, replicate}
-use Rattle.setting.specs.Allowed.{lengthAllowed}
-use Rattle.element.specs.Size.{pick, zeros, sizeOf}
-use Rattle.element.specs.Contents.{row}
+use Rattle.element.specs.Size.{zeros, sizeOf}
+use Rattle.element.specs.Contents.{packed}
 
 -- m: 2^m is 4·PL, PL being VL/8
 unfoldable pub topBit : ℕ → ℕ
@@ -35,12 +33,4 @@ expansionBit vl c b = not (eqb (c % 16) 0) && (eqb (b % (sizeOf c / 8)) 0 && ele
 
 -- the 4·PL bits, which document 01 calls the mask
 unfoldable pub expansionOf : ℕ → ℕ → List ℕ
-expansionOf vl c = row (expansionBit vl c) (vl / 16)
-
--- some bytes with zeros behind them, 128 in all
-unfoldable pub padded : List ℕ → List ℕ
-padded s = s ++ replicate (128 - length s) 0
-
--- the expansion, none for a VL that is not allowed, in the 128 bytes that the longest takes
-abbrev pub maskOf : ℕ → ℕ → List ℕ
-maskOf vl c = padded (pick (lengthAllowed vl) (expansionOf vl c) [])
+expansionOf vl c = packed (expansionBit vl c) (vl / 16)

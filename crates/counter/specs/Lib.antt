@@ -1,4 +1,4 @@
 pub mod Counter
 pub mod Portion
-pub mod Strips
+pub mod Private
 pub mod Points

@@ -5,7 +5,7 @@ use mathlib.Core.List.{List, [], _∷_, _++_}
 use Prim.Native.Nat.{ℕ, _*_, _/_, _^_}
 use lib.ListN.{replicate}
 use Rattle.setting.specs.Allowed.{lengthAllowed}
-use Rattle.element.specs.Every.{Every}
+use Rattle.logic.specs.Every.{Every}
 use Rattle.counter.specs.Counter.{topBit, expansionOf}
 
 abbrev pub counterPoints : List (Type 0)

@@ -1,21 +1,21 @@
-// A predicate-as-counter and its mask. Only this crate turns one into the other: whole, or by a portion for PEXT.
+// A predicate-as-counter, its mask, and PEXT's portion of it. Only expansion leads from one to the other.
 ghost use mathlib.Core.Path.{_≡_};
-ghost use Prim.Native.Nat.{_+_, _-_, _*_, _%_, _^_, _<_, max};
-ghost use lib.Dec.{eqb, ltb};
+ghost use Prim.Native.Nat.{_+_, _-_, _*_, _^_, _<_};
+ghost use lib.Bits.{bitAnd};
+ghost use lib.Dec.{ltb};
 ghost use lib.ListN.{length, getD};
-ghost use Rattle.element.specs.Size.{pick, zeros};
+ghost use Rattle.logic.specs.Pick.{pick};
 ghost use Rattle.element.specs.Units.{sizeAt};
-ghost use Rattle.element.specs.Contents.{elem, gather, row};
-ghost use Rattle.counter.specs.Counter.{countOf, maskOf};
+ghost use Rattle.element.specs.Contents.{elem, gather, packed};
 ghost use Rattle.counter.specs.Portion.{portionOf, extractable};
-ghost use Rattle.counter.specs.Strips.{stripBit, Strip, Filled, Says};
+ghost use Rattle.counter.specs.Private.{countAt, maskAt, everyPlace, sampledBit, Length, Masked, Sampled, Filled};
 ghost use Rattle.counter.specs.Points.{Claims};
 
 // Sixteen bits that are no mask.
 pub struct Counter(u16);
 
-// The bits that a counter stands for, 4·PL of them, with zeros behind.
-pub struct Mask([u8; 128]);
+// Sixty-four bits of the mask that a counter stands for. Only `expand` makes one.
+struct Mask(u64);
 
 fn byte(s: &[u8], k: usize) -> u8
     ensures { λ r. ⌜ r ≡ getD (now (s .entry)) k 0 ⌝ }
@@ -36,32 +36,25 @@ pub fn counter_of(p: &[u8]) -> Counter
     pair(byte(p, 0), byte(p, 1))
 }
 
-fn larger(a: u32, b: u32) -> u32
-    ensures { λ r. ⌜ r ≡ max a b ⌝ }
+fn saturating_sub(a: u32, b: u32) -> u32
+    ensures { λ r. ⌜ r ≡ a - b ⌝ }
 {
-    if a < b { b } else { a }
+    if b <= a { a - b } else { 0 }
 }
 
-// How far t lies past `from`.
-fn past(t: u32, from: u32) -> u32
-    ensures { λ r. ⌜ r ≡ t - from ⌝ }
+// Where the elements below the count end, of elements of 8 · 2^z bits.
+fn edge(c: Counter, vl: u32, z: u32) -> u32
+    requires { ⌜ Length vl × (z < 4) ⌝ }
+    ensures { λ r. ⌜ r ≡ countAt vl (c .0) z * 2 ^ z ⌝ }
 {
-    if from <= t { t - from } else { 0 }
-}
-
-// The edge's place in the expansion, the count by the counter's own size: below VL, without the lowest 1, halved.
-fn place(bits: u32, vl: u32) -> u32
-    requires { ⌜ Says vl bits ⌝ }
-    ensures { λ r. ⌜ r ≡ countOf vl bits * 2 ^ zeros bits ⌝ }
-{
-    let m = bits & (vl - 1);
-    (m & (m - 1)) >> 1
+    let m = (c.0 as u32) & (vl - 1);
+    (m >> (z + 1)) << z
 }
 
 // Sixty-four bits, of which every 2^z-th is 1: a byte of them eight times.
 fn places(z: u32) -> u64
     requires { ⌜ z < 4 ⌝ }
-    ensures { λ r. ⌜ r ≡ gather (λ b. eqb (b % 2 ^ z) 0) 0 64 ⌝ }
+    ensures { λ r. ⌜ r ≡ everyPlace z ⌝ }
 {
     (element::pattern_of(z) as u64) * 0x0101010101010101
 }
@@ -77,50 +70,47 @@ fn ones(d: u32) -> u64
     }
 }
 
-// Sixty-four bits of the expansion, from `from` on, at every 2^s-th place. The places of both sizes are the larger's.
-fn bits(c: Counter, vl: u32, s: u32, from: u32) -> u64
-    requires { ⌜ Strip vl s from ⌝ }
-    ensures { λ r. ⌜ r ≡ gather (stripBit vl (c .0) s from) 0 64 ⌝ }
+// The expansion, sixty-four bits of it from `from` on, its elements of 8 · 2^z bits: the only way from a counter to a mask.
+fn expand(c: Counter, vl: u32, z: u32, from: u32) -> Mask
+    requires { ⌜ Masked vl (c .0) z from ⌝ }
+    ensures { λ r. ⌜ r .0 ≡ maskAt vl (c .0) z from ⌝ }
 {
-    let b = c.0 as u32;
+    let b = c.0 as u64;
     if b % 16 == 0 {
-        return 0;
+        return Mask(0);
     }
-    let z = larger(element::log_said(b), s);
-    let x = ones(past(place(b, vl), from));
+    let y = places(z);
+    let x = ones(saturating_sub(edge(c, vl, z), from));
     if b / 32768 == 1 {
-        return (0xffffffffffffffff - x) & places(z);
+        return Mask((0xffffffffffffffff - x) & y);
     }
-    x & places(z)
+    Mask(x & y)
 }
 
-// The expansion's bits from `from` on, at every 2^s-th place, eight bytes at a time; two or four where there are no more.
-fn strip(c: Counter, vl: u32, s: u32, from: u32, o: &mut [u8])
-    requires { ⌜ Strip vl s from × Filled from (length (now o)) ⌝ }
-    ensures { λ _. ⌜ now (o .exit) ≡ row (stripBit vl (c .0) s from) (length (now (o .entry))) ⌝ }
+// The mask's bits at every 2^s-th place.
+fn at_places(m: Mask, s: u32) -> u64
+    requires { ⌜ s < 4 ⌝ }
+    ensures { λ r. ⌜ r ≡ bitAnd (m .0) (everyPlace s) ⌝ }
+{
+    m.0 & places(s)
+}
+
+// The mask's bits from `from` on, at every 2^s-th place, eight bytes at a time; two or four where there are no more.
+fn sample(c: Counter, vl: u32, z: u32, s: u32, from: u32, o: &mut [u8])
+    requires { ⌜ Sampled vl (c .0) z s from × Filled from (length (now o)) ⌝ }
+    ensures { λ _. ⌜ now (o .exit) ≡ packed (sampledBit vl (c .0) z s from) (length (now (o .entry))) ⌝ }
 {
     if o.len() < 8 {
-        part::write(o, bits(c, vl, s, from));
+        part::write(o, at_places(expand(c, vl, z, from), s));
         return;
     }
     let mut a: usize = 0;
     while a < o.len() {
         let e = a + 8;
-        part::write(&mut o[a..e], bits(c, vl, s, from + 8 * (a as u32)));
+        let m = expand(c, vl, z, from + 8 * (a as u32));
+        part::write(&mut o[a..e], at_places(m, s));
         a = e;
     }
-}
-
-// The counter's mask; no true bit for a VL that is not allowed.
-pub fn expand(c: Counter, vl: u32) -> Mask
-    ensures { λ r. ⌜ r .0 ≡ maskOf vl (c .0) ⌝ }
-{
-    let mut m = [0u8; 128];
-    if setting::length_allowed(vl) {
-        let n = (vl / 16) as usize;
-        strip(c, vl, 0, 0, &mut m[..n]);
-    }
-    Mask(m)
 }
 
 fn can_extract(vl: u32, log: u32, portion: u32, room: usize) -> bool
@@ -137,7 +127,8 @@ pub fn extract(c: Counter, vl: u32, log: u32, portion: u32, o: &mut [u8]) -> boo
     if !can_extract(vl, log, portion, o.len()) {
         return false;
     }
-    strip(c, vl, log, portion * (vl / 8), o);
+    let z = element::log_of_field(c.0 as u32);
+    sample(c, vl, z, log, portion * (vl / 8), o);
     true
 }
 

@@ -1,11 +1,12 @@
--- DUP's size by its log, as its bits say it: a test over the values of the low four, and one over the logs.
+-- DUP's size by its log, as its bits say it: a test over the values of the low four.
 use mathlib.Core.Path.{_≡_}
 use mathlib.Core.Bool.{Bool}
-use Prim.Native.Nat.{ℕ, _+_, _*_, _/_, _%_, _^_, _<_}
+use Prim.Native.Nat.{ℕ, _*_, _%_, _^_}
 use native.Mathlib.Omega.{arith}
 use lib.Count.{trailingZeros}
 use lib.Dec.{eqb, eqb→eq}
-use Rattle.element.specs.Size.{pick, zeros, sizeOf}
+use Rattle.logic.specs.Pick.{pick}
+use Rattle.element.specs.Size.{zeros, sizeOf}
 use Rattle.element.specs.Units.{sizeAt}
 use Rattle.element.proofs.Below.{below}
 
@@ -22,11 +23,3 @@ by-log t = eqb (sized t) (sizeAt (trailingZeros 32 t))
 pub size-by-log : (field : ℕ) → sizeOf field ≡ sizeAt (zeros field)
 unfolding sizeOf sized by-log trailingZeros
 size-by-log field = let t = field % 16 in eqb→eq (sized t) (sizeAt (trailingZeros 32 t)) (below by-log 16 tt t (omega arith))
-
-quartered : ℕ → Bool
-quartered z = eqb (sizeAt z / 4) (2 ^ (z + 1))
-
--- dividing by a quarter of the size shifts the lowest bit that is set out
-pub quarter : (z : ℕ) → z < 4 → sizeAt z / 4 ≡ 2 ^ (z + 1)
-unfolding quartered
-quarter z h = eqb→eq (sizeAt z / 4) (2 ^ (z + 1)) (below quartered 4 tt z h)

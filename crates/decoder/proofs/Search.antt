@@ -9,15 +9,15 @@ use lib.Dec.{T, eqb, eqb→eq, ltb, ltb→lt}
 use lib.ListN.{length, drop, getD}
 use borrow.Author.Tests.{lt-ltb}
 use Rattle.setting.specs.Allowed.{hasAny}
-use Rattle.element.specs.Size.{pick}
-use Rattle.element.specs.Every.{all}
+use Rattle.logic.specs.Pick.{pick}
+use Rattle.logic.specs.Every.{all}
 use Rattle.element.proofs.Below.{both, below}
 use Rattle.encoding.specs.Layout.{Piece, fieldsOf, matches}
 use Rattle.encoding.specs.Rows.{Row, rows, rowMatches}
 use Rattle.encoding.specs.Places.{layoutAt, hasLayout, placeFirst}
 use Rattle.encoding.proofs.Choice.{matchesAt, place-is}
 use Rattle.encoding.proofs.Round.{rows-disjoint}
-use Rattle.decoder.specs.Rest.{restAt}
+use Rattle.decoder.specs.Private.{restAt}
 
 abbrev layoutIn : List Row → ℕ → List Piece
 layoutIn rs k = getD (map (λ (r : Row). r .layout) rs) k []

@@ -1,2 +1,2 @@
 pub mod Operands
-pub mod Rest
+pub mod Private

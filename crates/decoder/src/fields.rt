@@ -79,11 +79,11 @@ pub fn pext2(word: u32) -> Operands
     }
 }
 
-// The bits above the lowest that is set, whose place is the log; 0 where none of the four low bits is.
+// The bits above the lowest that is set, whose place is the log.
 fn above_lowest(bits: u32, log: u32) -> u32
-    ensures { λ r. ⌜ r ≡ bits / (sizeAt log / 4) ⌝ }
+    ensures { λ r. ⌜ r ≡ bits / 2 ^ (log + 1) ⌝ }
 {
-    if log < 4 {
+    if log < 31 {
         return bits >> (log + 1);
     }
     0
@@ -93,7 +93,7 @@ pub fn dup(word: u32) -> DupOperands
     ensures { λ r. ⌜ accept (dupAs r) ≡ readAt rows 2 word ⌝ }
 {
     let bits = word / 0x800000 % 2 * 16 + dup_tsz(word);
-    let log = element::log_said(bits);
+    let log = element::log_of_field(bits);
     let offset = above_lowest(bits, log);
     let index = 12 + word / 0x10000 % 4;
     DupOperands {

@@ -1,9 +1,9 @@
 // Which row of the table a word has: two searches of the table, by layout, features and field condition.
 ghost use mathlib.Core.Path.{_≡_};
-ghost use Rattle.element.specs.Size.{pick};
+ghost use Rattle.logic.specs.Pick.{pick};
 ghost use Rattle.encoding.specs.Rows.{rows};
 ghost use Rattle.encoding.specs.Places.{placeFirst};
-ghost use Rattle.decoder.specs.Rest.{conditionAt, restAt};
+ghost use Rattle.decoder.specs.Private.{conditionAt, restAt};
 use crate::fields;
 use encoding::table;
 use encoding::table::ROWS;
@@ -33,7 +33,7 @@ fn rest(place: usize, features: u32, word: u32) -> bool
     table::available(place, features) & condition(place, word)
 }
 
-fn earlier(hit: bool, place: usize, later: usize) -> usize
+fn select(hit: bool, place: usize, later: usize) -> usize
     ensures { λ r. ⌜ r ≡ pick hit place later ⌝ }
 {
     if hit { place } else { later }
@@ -41,7 +41,7 @@ fn earlier(hit: bool, place: usize, later: usize) -> usize
 
 // The place of the first row that matches, or ROWS. Every row is tested, from the last: for words in no order a branch is rarely
 // foreseen.
-pub(crate) fn row_of(features: u32, word: u32) -> usize
+pub(crate) fn place_of(features: u32, word: u32) -> usize
     ensures { λ r. ⌜ r ≡ placeFirst rows features word ⌝ }
 {
     let mut place = ROWS;
@@ -49,7 +49,7 @@ pub(crate) fn row_of(features: u32, word: u32) -> usize
     while k > 0 {
         k -= 1;
         let hit = table::has_layout(k, word) & rest(k, features, word);
-        place = earlier(hit, k, place);
+        place = select(hit, k, place);
     }
     place
 }
@@ -59,7 +59,7 @@ const TURNS: [usize; ROWS] = [0, 5, 1, 2, 3, 4];
 
 // The same, by turns, up to one that matches: no word has two layouts, so the order is free. In a run the same words come again,
 // and each branch is foreseen.
-pub(crate) fn row_by_turns(features: u32, word: u32) -> usize
+pub(crate) fn place_by_turns(features: u32, word: u32) -> usize
     ensures { λ r. ⌜ r ≡ placeFirst rows features word ⌝ }
 {
     let mut n: usize = 0;

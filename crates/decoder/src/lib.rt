@@ -32,10 +32,10 @@ pub struct DupOperands {
 }
 
 // What the row at a place of the table, from 0, reads a word as, whether it matches or not; 3 past the table's end.
-fn read(row: usize, word: u32) -> Decoded
-    ensures { λ r. ⌜ decodedAs r ≡ readAt rows row word ⌝ }
+fn read(place: usize, word: u32) -> Decoded
+    ensures { λ r. ⌜ decodedAs r ≡ readAt rows place word ⌝ }
 {
-    match row {
+    match place {
         0 => forms::pext1(fields::pext1(word)),
         1 => forms::pext2(fields::pext2(word)),
         2 => forms::dup(fields::dup(word)),
@@ -54,15 +54,15 @@ pub fn decode(setting: Setting, word: u32) -> Decoded
     if !setting::allowed(setting) {
         return Decoded::Refused(Answer::NotAllowed);
     }
-    read(layouts::row_of(features, word), word)
+    read(layouts::place_of(features, word), word)
 }
 
 // The place of the first row that matches a word, or ROWS, for whoever has tested the setting: by turns, so that where the same
 // words come again, as in a run, each branch is foreseen.
-pub fn row(features: u32, word: u32) -> usize
+pub fn place(features: u32, word: u32) -> usize
     ensures { λ r. ⌜ r ≡ placeFirst rows features word ⌝ }
 {
-    layouts::row_by_turns(features, word)
+    layouts::place_by_turns(features, word)
 }
 
 // The place in the table, from 0, of the form that a word is read as under a setting; ROWS where it is refused.
@@ -73,5 +73,5 @@ pub fn form(setting: Setting, word: u32) -> usize
     if !setting::allowed(setting) {
         return ROWS;
     }
-    layouts::row_of(features, word)
+    layouts::place_of(features, word)
 }

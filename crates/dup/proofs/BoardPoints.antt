@@ -1,6 +1,6 @@
 -- The starred case of DUP's element: it computes.
 use mathlib.Core.Path.{refl}
-use Rattle.element.specs.Every.{Every}
+use Rattle.logic.specs.Every.{Every}
 use Rattle.dup.specs.Dup.{indexOf}
 use Rattle.dup.specs.Points.{dupPoints}
 

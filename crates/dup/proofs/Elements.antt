@@ -13,11 +13,12 @@ use lib.Seq.{take-take}
 use Rattle.setting.specs.Allowed.{lengthAllowed}
 use Rattle.setting.proofs.Lengths.{length-cases}
 use Rattle.part.proofs.Lengths.{lengths-of}
-use Rattle.element.specs.Size.{pick}
-use Rattle.element.specs.Units.{Log, patternOf}
-use Rattle.element.specs.Contents.{bit, fill, gather, octet, row}
+use Rattle.logic.specs.Pick.{pick}
+use Rattle.element.specs.Units.{patternOf}
+use Rattle.element.specs.Private.{Log}
+use Rattle.element.specs.Contents.{bit, fill, gather, octet, packed}
 use Rattle.element.proofs.Digits.{and-gather, octet-bits, pattern-bits}
-use Rattle.element.proofs.Filling.{turn, gather-same, same, row-length}
+use Rattle.element.proofs.Filling.{turn, gather-same, same, packed-length}
 use Rattle.element.specs.Slots.{slot}
 use Rattle.element.proofs.Slots.{reach, slot-part}
 use Rattle.element.proofs.Units.{unit, whole, unit-of, elements}
@@ -81,7 +82,7 @@ value-is vl size sum z pn l = rw (elements vl l, unit-of l)
 
 pub dup-length : (vl size sum : ℕ) (pg pn : List ℕ) → length (dupOf vl size sum pg pn) ≡ vl / 64
 unfolding dupOf
-dup-length vl size sum pg pn = row-length (dupBit size (valueOf vl size sum pn) pg) (vl / 64)
+dup-length vl size sum pg pn = packed-length (dupBit size (valueOf vl size sum pn) pg) (vl / 64)
 
 module _ (pg : List ℕ) (small : (k : ℕ) → getD pg k 0 < 256) (size z : ℕ) (l : Log size z) where
   dup-byte : (k : ℕ) (v : Bool) → bitAnd (getD pg k 0) (pick v (patternOf z) 0) ≡ octet (dupBit size v pg) k
@@ -96,6 +97,6 @@ module _ (pg : List ℕ) (small : (k : ℕ) → getD pg k 0 < 256) (size z : ℕ
       ∙ gather-same (λ (b : ℕ). false) (dupBit size false pg) 8 (8 * k) (8 * k)
       (λ j h. rw (and-false (bit (8 * k + j) pg), and-false (eqb ((8 * k + j) % (size / 8)) 0)))
 
-  pub dup-row : (n m : ℕ) (v : Bool) → m ≡ pick v (patternOf z) 0 → fill (λ k. bitAnd (getD pg k 0) m) 1 n ≡ row (dupBit size v pg) n
-  unfolding row
-  dup-row n m v e = same (λ k. bitAnd (getD pg k 0) m) (octet (dupBit size v pg)) 1 n (λ k h. rw e (dup-byte k v))
+  pub dup-packed : (n m : ℕ) (v : Bool) → m ≡ pick v (patternOf z) 0 → fill (λ k. bitAnd (getD pg k 0) m) 1 n ≡ packed (dupBit size v pg) n
+  unfolding packed
+  dup-packed n m v e = same (λ k. bitAnd (getD pg k 0) m) (octet (dupBit size v pg)) 1 n (λ k h. rw e (dup-byte k v))

@@ -14,9 +14,9 @@ use Rattle.element.specs.Units.{sizeAt}
 use Rattle.element.proofs.Tests.{both-yes}
 use Rattle.element.proofs.Units.{is-size-at}
 use Rattle.dup.specs.Dup.{dupOf, dupReady, dupLeaves}
-use Rattle.dup.specs.Operands.{Registers}
+use Rattle.dup.specs.Private.{DuplicateReady}
 
-pub dup-ready : (bytes vl log offset pg pn pd : ℕ) → dupReady bytes vl (sizeAt log) offset pg pn pd ≡ true → Registers bytes vl log pg pn pd
+pub dup-ready : (bytes vl log offset pg pn pd : ℕ) → dupReady bytes vl (sizeAt log) offset pg pn pd ≡ true → DuplicateReady bytes vl log pg pn pd
 unfolding dupReady
 dup-ready bytes vl log offset pg pn pd h =
     let file = eqb bytes 512 && lengthAllowed vl in

@@ -5,9 +5,11 @@ use Prim.Native.Nat.{ℕ, _+_, _*_, _/_, _%_}
 use lib.Dec.{eqb, ltb}
 use lib.ListN.{length}
 use Rattle.setting.specs.Allowed.{lengthAllowed}
-use Rattle.element.specs.Size.{pick, isSize}
-use Rattle.element.specs.Contents.{bit, row}
+use Rattle.logic.specs.Pick.{pick}
+use Rattle.element.specs.Size.{isSize}
+use Rattle.element.specs.Contents.{bit, packed}
 use Rattle.element.specs.Slots.{slot, setSlot}
+use Rattle.element.specs.Files.{predicateFile}
 
 -- the chosen element of Pn, sum being W + offset
 unfoldable pub indexOf : ℕ → ℕ → ℕ → ℕ
@@ -22,11 +24,11 @@ dupBit size v pg b = eqb (b % (size / 8)) 0 && (bit b pg && v)
 
 -- the destination's contents
 unfoldable pub dupOf : ℕ → ℕ → ℕ → List ℕ → List ℕ → List ℕ
-dupOf vl size sum pg pn = row (dupBit size (valueOf vl size sum pn) pg) (vl / 64)
+dupOf vl size sum pg pn = packed (dupBit size (valueOf vl size sum pn) pg) (vl / 64)
 
--- a file of 512 bytes, an allowed VL, one of the four sizes, an offset of four bits, and registers
+-- the file has its length, an allowed VL, one of the four sizes, an offset of four bits, and registers
 unfoldable pub dupReady : ℕ → ℕ → ℕ → ℕ → ℕ → ℕ → ℕ → Bool
-dupReady bytes vl size offset pg pn pd = eqb bytes 512 && lengthAllowed vl && isSize size && ltb offset 16 && (ltb pg 16 && ltb pn 16 && ltb pd 16)
+dupReady bytes vl size offset pg pn pd = eqb bytes predicateFile && lengthAllowed vl && isSize size && ltb offset 16 && (ltb pg 16 && ltb pn 16 && ltb pd 16)
 
 -- both sources are read from the file as it was
 unfoldable pub dupLeaves : ℕ → ℕ → ℕ → ℕ → ℕ → ℕ → ℕ → List ℕ → List ℕ

@@ -5,11 +5,11 @@ ghost use Prim.Native.Nat.{_+_, _*_, _/_, _%_, _^_, _<_};
 ghost use lib.ListN.{length, getD};
 ghost use lib.Bits.{bitAnd};
 ghost use Rattle.setting.specs.Allowed.{lengthAllowed};
-ghost use Rattle.element.specs.Size.{pick};
+ghost use Rattle.logic.specs.Pick.{pick};
 ghost use Rattle.element.specs.Units.{sizeAt};
-ghost use Rattle.element.specs.Contents.{fill, row, bit};
+ghost use Rattle.element.specs.Contents.{fill, packed, bit};
 ghost use Rattle.dup.specs.Dup.{valueOf, dupBit};
-ghost use Rattle.dup.specs.Operands.{Element};
+ghost use Rattle.dup.specs.Private.{ElementReady};
 
 // Bit i of a predicate.
 fn test(s: &[u8], i: usize) -> bool
@@ -32,7 +32,7 @@ fn chosen(vl: u32, z: u32, w: u32, offset: u32) -> u32
 
 // The chosen element of Pn.
 pub(crate) fn value(pn: &[u8], vl: u32, log: u32, w: u32, offset: u32) -> bool
-    requires { ⌜ Element vl log (length (now pn)) ⌝ }
+    requires { ⌜ ElementReady vl log (length (now pn)) ⌝ }
     ensures { λ r. ⌜ r ≡ valueOf vl (sizeAt log) (w + offset) (now (pn .entry)) ⌝ }
 {
     let i = chosen(vl, log, w, offset) << log;
@@ -60,7 +60,7 @@ fn kept(v: bool, m: u8) -> u8
 // At each element's bit Pg's, if the value is true.
 pub(crate) fn spread(pg: &[u8], v: bool, log: u32, o: &mut [u8])
     requires { ⌜ (log < 4) × (length (now pg) ≡ length (now o)) ⌝ }
-    ensures { λ _. ⌜ now (o .exit) ≡ row (dupBit (sizeAt log) v (now (pg .entry))) (length (now (o .entry))) ⌝ }
+    ensures { λ _. ⌜ now (o .exit) ≡ packed (dupBit (sizeAt log) v (now (pg .entry))) (length (now (o .entry))) ⌝ }
 {
     masked(pg, kept(v, element::pattern_of(log)), o);
 }

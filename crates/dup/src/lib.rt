@@ -7,13 +7,13 @@ ghost use lib.ListN.{length};
 ghost use Rattle.element.specs.Units.{sizeAt};
 ghost use Rattle.element.specs.Slots.{slot, setSlot};
 ghost use Rattle.dup.specs.Dup.{dupOf, dupReady, dupLeaves};
-ghost use Rattle.dup.specs.Operands.{Registers};
+ghost use Rattle.dup.specs.Private.{DuplicateReady};
 ghost use Rattle.dup.specs.Points.{Claims};
 
 fn can_dup(bytes: usize, vl: u32, log: u32, offset: u32, pg: u32, pn: u32, pd: u32) -> bool
     ensures { λ r. ⌜ r ≡ dupReady bytes vl (sizeAt log) offset pg pn pd ⌝ }
 {
-    (bytes == 512)
+    (bytes == element::PREDICATE_FILE)
         & setting::length_allowed(vl)
         & (log < 4)
         & (offset < 16)
@@ -22,7 +22,7 @@ fn can_dup(bytes: usize, vl: u32, log: u32, offset: u32, pg: u32, pn: u32, pd: u
 
 // Pn's value is read, and Pg's slot is copied, before Pd is lent.
 fn duplicate(p: &mut [u8], vl: u32, log: u32, w: u32, offset: u32, pg: u32, pn: u32, pd: u32)
-    requires { ⌜ Registers (length (now p)) vl log pg pn pd ⌝ }
+    requires { ⌜ DuplicateReady (length (now p)) vl log pg pn pd ⌝ }
     ensures { λ _. ⌜ now (p .exit) ≡ setSlot 32 (vl / 64) pd (dupOf vl (sizeAt log) (w + offset) (slot 32 (vl / 64) pg (now (p .entry))) (slot 32 (vl / 64) pn (now (p .entry)))) (now (p .entry)) ⌝ }
 {
     let n = (vl / 64) as usize;

@@ -10,7 +10,7 @@ use lib.Arith.{bin-ind}
 use lib.Pow.{pow-add, pow-pos, pow-lt}
 use lib.Bits.{bitAnd, bitOr, and-step, or-step, and-comm, and-self, and-zero-r, and-shifted, and-high, or-add-and, and-le-r}
 use borrow.Author.Tests.{eq-eqb, ne-eqb}
-use Rattle.element.specs.Bits.{shares}
+use Rattle.element.specs.Private.{shares}
 
 -- ---- AND through OR
 digits-through : (x y z : ℕ) → min (max x y) z ≡ max (min x z) (min y z)

@@ -8,7 +8,7 @@ use Rattle.setting.specs.declared.Feature.the-variants.{Sme2p1}
 use Rattle.setting.specs.declared.Setting.{Setting}
 use Rattle.element.specs.Size.{sizeOf}
 use Rattle.encoding.specs.Decode.{decodeOf}
-use Rattle.element.specs.Every.{Every}
+use Rattle.logic.specs.Every.{Every}
 use Rattle.encoding.specs.Points.{readingPoints}
 use Rattle.encoding.specs.declared.Instruction.the-variants.{Luti4s}
 use Rattle.encoding.proofs.Apart.{decide}

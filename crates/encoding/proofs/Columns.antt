@@ -7,14 +7,15 @@ use lib.Dec.{T, eqb, eqb→eq}
 use lib.Bits.{bitAnd}
 use lib.ListN.{length, getD, List·getD-map, List·getD-eq-default}
 use borrow.Author.Tests.{eq-eqb, ne-eqb, lt-ltb, le-ltb}
-use Rattle.setting.specs.Allowed.{bitOf, hasAny}
+use Rattle.setting.specs.Allowed.{featureBit, hasAny}
 use Rattle.setting.specs.declared.Feature.{Feature}
-use Rattle.element.specs.Bits.{shares}
+use Rattle.element.specs.Private.{shares}
 use Rattle.element.proofs.Below.{below}
 use Rattle.element.proofs.Shared.{shares-none, or-shares, shares-power}
 use Rattle.encoding.specs.Layout.{Piece, width, matches, fixedOf}
 use Rattle.encoding.specs.Rows.{Row, rows}
-use Rattle.encoding.specs.Places.{layoutAt, featuresAt, featureBits, hasLayout}
+use Rattle.encoding.specs.Places.{layoutAt, featuresAt, hasLayout}
+use Rattle.encoding.specs.Private.{featureBits}
 use Rattle.encoding.proofs.LayoutLaws.{sound, maskOf, matches-masked, masked-matches}
 use Rattle.encoding.proofs.Apart.{decide}
 
@@ -53,7 +54,7 @@ no-layout k w h = rw (le-ltb k (length rows) h)
 -- a bit in common is a feature of the list
 any-shares : (f : ℕ) (xs : List Feature) → shares f (featureBits xs) ≡ hasAny f xs
 any-shares f [] = shares-none f
-any-shares f (x ∷ xs) = or-shares f (2 ^ bitOf x) (featureBits xs) ∙ ap₂ _||_ (shares-power f (bitOf x)) (any-shares f xs)
+any-shares f (x ∷ xs) = or-shares f (2 ^ featureBit x) (featureBits xs) ∙ ap₂ _||_ (shares-power f (featureBit x)) (any-shares f xs)
 
 pub feature-bits-tell : (k f : ℕ) {b : ℕ} → b ≡ featureBits (featuresAt k) → shares f b ≡ hasAny f (featuresAt k)
 feature-bits-tell k f e = ap (shares f) e ∙ any-shares f (featuresAt k)

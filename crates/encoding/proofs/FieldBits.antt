@@ -29,21 +29,21 @@ log-size (suc (suc (suc (suc n)))) h = absurd (omega arith)
 -- ---- DUP: the bits i1:tszh:tszl, by a test over all of them and one over the offsets of each size
 bits-of : ℕ → ℕ → Bool
 unfolding sizeOf trailingZeros
-bits-of n o = ltb (rawDupBits n o) 32 && not (eqb (rawDupBits n o % 16) 0) && (eqb (sizeOf (rawDupBits n o)) n && eqb (rawDupBits n o / (n / 4)) o)
+bits-of n o = ltb (rawDupBits n o) 32 && not (eqb (rawDupBits n o % 16) 0) && (eqb (sizeOf (rawDupBits n o)) n && eqb (dupOffset (rawDupBits n o)) o)
 
 pub record DupBits (size offset : ℕ) : Type 0 where
   pub lt : rawDupBits size offset < 32
   pub some : not (eqb (rawDupBits size offset % 16) 0) ≡ true
   pub size-back : sizeOf (rawDupBits size offset) ≡ size
-  pub offset-back : rawDupBits size offset / (size / 4) ≡ offset
+  pub offset-back : dupOffset (rawDupBits size offset) ≡ offset
 
 tested-bits : (n o : ℕ) → T (bits-of n o) → DupBits n o
 unfolding bits-of sizeOf trailingZeros
 tested-bits n o t =
-    let a = both (ltb (rawDupBits n o) 32 && not (eqb (rawDupBits n o % 16) 0)) (eqb (sizeOf (rawDupBits n o)) n && eqb (rawDupBits n o / (n / 4)) o) t in
+    let a = both (ltb (rawDupBits n o) 32 && not (eqb (rawDupBits n o % 16) 0)) (eqb (sizeOf (rawDupBits n o)) n && eqb (dupOffset (rawDupBits n o)) o) t in
     let b = both (ltb (rawDupBits n o) 32) (not (eqb (rawDupBits n o % 16) 0)) (a .0) in
-    let c = both (eqb (sizeOf (rawDupBits n o)) n) (eqb (rawDupBits n o / (n / 4)) o) (a .1) in
-    record { lt = ltb→lt (rawDupBits n o) 32 (b .0); some = is-true (not (eqb (rawDupBits n o % 16) 0)) (b .1); size-back = eqb→eq (sizeOf (rawDupBits n o)) n (c .0); offset-back = eqb→eq (rawDupBits n o / (n / 4)) o (c .1) }
+    let c = both (eqb (sizeOf (rawDupBits n o)) n) (eqb (dupOffset (rawDupBits n o)) o) (a .1) in
+    record { lt = ltb→lt (rawDupBits n o) 32 (b .0); some = is-true (not (eqb (rawDupBits n o % 16) 0)) (b .1); size-back = eqb→eq (sizeOf (rawDupBits n o)) n (c .0); offset-back = eqb→eq (dupOffset (rawDupBits n o)) o (c .1) }
 
 pub dup-bits : (n : ℕ) → isSize n ≡ true → (o : ℕ) → o < 128 / n → DupBits n o
 unfolding bits-of sizeOf trailingZeros

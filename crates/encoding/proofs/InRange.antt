@@ -6,7 +6,8 @@ use native.Mathlib.Omega.{arith}
 use lib.Dec.{eqb, ltb, leb, lit<}
 use borrow.Author.Tests.{eqb-true, ltb-true, leb-true}
 use Rattle.element.specs.Size.{isSize, isResult}
-use Rattle.element.specs.Units.{Log, logOf}
+use Rattle.element.specs.Units.{logOf}
+use Rattle.element.specs.Private.{Log}
 use Rattle.element.proofs.Tests.{both-yes}
 use Rattle.element.proofs.Units.{log-is, size-is}
 use Rattle.encoding.specs.Instructions.{isP, isZ, pextInRange, dupInRange, lutiInRange, narrowInRange, inRange, rawDupBits, rawOf}

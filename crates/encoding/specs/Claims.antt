@@ -6,12 +6,12 @@ use Prim.Native.Nat.{ℕ, _+_, _≤_}
 use Rattle.setting.specs.Allowed.{allowedOf}
 use Rattle.setting.specs.Numbers.{accept, refuse}
 use Rattle.setting.specs.declared.Setting.{Setting}
-use Rattle.element.specs.Size.{pick}
+use Rattle.logic.specs.Pick.{pick}
 use Rattle.encoding.specs.Layout.{matches}
 use Rattle.encoding.specs.Rows.{Row, rows, rowMatches}
 use Rattle.encoding.specs.Decode.{decodeOf}
 use Rattle.encoding.specs.Encode.{written, encodeOf}
-use Rattle.element.specs.Every.{Every}
+use Rattle.logic.specs.Every.{Every}
 use Rattle.encoding.specs.Points.{readingPoints}
 use Rattle.encoding.specs.declared.Instruction.{Instruction}
 

@@ -3,7 +3,7 @@ use Prim.Native.Nat.{ℕ}
 use Rattle.setting.specs.Allowed.{hasAny, allowedOf}
 use Rattle.setting.specs.Numbers.{numberOf}
 use Rattle.setting.specs.declared.Setting.{Setting}
-use Rattle.element.specs.Size.{pick}
+use Rattle.logic.specs.Pick.{pick}
 use Rattle.encoding.specs.Layout.{wordOf}
 use Rattle.encoding.specs.Instructions.{inRange, rawOf}
 use Rattle.encoding.specs.Rows.{rowOf}

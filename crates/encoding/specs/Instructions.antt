@@ -4,7 +4,8 @@ use mathlib.Core.List.{List, [], _∷_}
 use Prim.Native.Nat.{ℕ, _+_, _-_, _*_, _%_, _/_, _^_}
 use lib.Dec.{eqb, ltb, leb}
 use lib.ListN.{getD}
-use Rattle.element.specs.Size.{pick, sizeOf, isSize, isResult}
+use Rattle.logic.specs.Pick.{pick}
+use Rattle.element.specs.Size.{zeros, sizeOf, isSize, isResult}
 use Rattle.element.specs.Units.{logOf}
 use Rattle.encoding.specs.declared.Instruction.{Instruction}
 use Rattle.encoding.specs.declared.Instruction.the-variants.{Pext1, Pext2, Dup, Luti4c, Luti4s, Uqrshrnb}
@@ -24,7 +25,7 @@ readPext2 xs = Pext2 (8 * 2 ^ raw xs 0) (raw xs 1) (8 + raw xs 2) (raw xs 3)
 
 -- DUP's i1:tszh:tszl says the size by its low four bits, and the offset by those above the lowest one that is set
 abbrev pub dupOffset : ℕ → ℕ
-dupOffset t = t / (sizeOf t / 4)
+dupOffset t = t / 2 ^ (zeros t + 1)
 
 abbrev pub dupBits : List ℕ → ℕ
 dupBits xs = raw xs 0 * 16 + (raw xs 1 * 8 + raw xs 2)

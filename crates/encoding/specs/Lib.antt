@@ -6,3 +6,4 @@ pub mod Encode
 pub mod Places
 pub mod Points
 pub mod Claims
+pub mod Private

@@ -1,14 +1,12 @@
 -- The table by places: what stands in the row at a place, from 0, and the place of the row that a word has. The table's length is the place of no row.
 use mathlib.Core.Bool.{Bool, _&&_}
 use mathlib.Core.List.{List, [], _∷_, map}
-use Prim.Native.Nat.{ℕ, suc, _^_}
+use Prim.Native.Nat.{ℕ, suc}
 use lib.Dec.{ltb}
-use lib.Bits.{bitOr}
 use lib.ListN.{length, getD}
-use Rattle.setting.specs.Allowed.{bitOf}
 use Rattle.setting.specs.Numbers.{Outcome, accept, refuse}
 use Rattle.setting.specs.declared.Feature.{Feature}
-use Rattle.element.specs.Size.{pick}
+use Rattle.logic.specs.Pick.{pick}
 use Rattle.encoding.specs.Layout.{Piece, matches}
 use Rattle.encoding.specs.Rows.{Row, rows, rowMatches, placeOf}
 use Rattle.encoding.specs.declared.Instruction.{Instruction}
@@ -19,11 +17,6 @@ layoutAt k = getD (map (λ (r : Row). r .layout) rows) k []
 
 abbrev pub featuresAt : ℕ → List Feature
 featuresAt k = getD (map (λ (r : Row). r .features) rows) k []
-
--- features as bits of the feature number
-abbrev pub featureBits : List Feature → ℕ
-featureBits [] = 0
-featureBits (x ∷ xs) = bitOr (2 ^ bitOf x) (featureBits xs)
 
 -- there is a row at the place, and the word has its layout
 abbrev pub hasLayout : ℕ → ℕ → Bool

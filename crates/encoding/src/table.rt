@@ -2,7 +2,8 @@
 ghost use mathlib.Core.Path.{_≡_};
 ghost use Rattle.setting.specs.Allowed.{hasAny};
 ghost use Rattle.encoding.specs.Layout.{fixedOf};
-ghost use Rattle.encoding.specs.Places.{layoutAt, featuresAt, featureBits, hasLayout};
+ghost use Rattle.encoding.specs.Places.{layoutAt, featuresAt, hasLayout};
+ghost use Rattle.encoding.specs.Private.{featureBits};
 
 // The number of rows, and the place of no row.
 pub const ROWS: usize = 6;

@@ -4,7 +4,7 @@ use Prim.Native.Nat.{ℕ}
 use Rattle.setting.specs.Allowed.{allowedOf}
 use Rattle.setting.specs.Numbers.{Outcome, accept, refuse}
 use Rattle.setting.specs.declared.Setting.{Setting}
-use Rattle.element.specs.Size.{pick}
+use Rattle.logic.specs.Pick.{pick}
 use Rattle.encoding.specs.Encode.{Written, unwritten, encodeOf}
 use Rattle.encoding.specs.declared.Instruction.{Instruction}
 use Rattle.numbers.specs.Fields.{numbersInto, instructionOf}

@@ -4,7 +4,7 @@ use mathlib.Core.Bool.{Bool, true, false, true≢false, false≢true, not, _&&_}
 use mathlib.Core.List.{[], _∷_}
 use Prim.Native.Nat.{ℕ}
 use native.Mathlib.Omega.{arith}
-use Rattle.element.specs.Size.{pick}
+use Rattle.logic.specs.Pick.{pick}
 use Rattle.machine.specs.Needs.{need, firstFailed}
 
 -- V with SVE2p1, else S

@@ -4,7 +4,7 @@ ghost use mathlib.Core.List.{[], _∷_};
 ghost use Rattle.setting.specs.Numbers.{numberOf};
 ghost use Rattle.setting.specs.Allowed.{hasFeature};
 ghost use Rattle.setting.specs.declared.Feature.the-variants.{Sve2p1};
-ghost use Rattle.element.specs.Size.{pick};
+ghost use Rattle.logic.specs.Pick.{pick};
 ghost use Rattle.machine.specs.Needs.{need, firstFailed};
 use setting::Answer;
 use setting::Feature;

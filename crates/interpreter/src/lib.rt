@@ -3,19 +3,18 @@ mod access;
 mod words;
 
 ghost use mathlib.Core.Path.{_≡_};
-ghost use mathlib.Core.Bool.{_&&_};
 ghost use mathlib.Core.List.{[], _∷_};
 ghost use Prim.Native.Nat.{_≤_};
-ghost use lib.Dec.{eqb, leb};
+ghost use lib.Dec.{leb};
 ghost use Rattle.machine.specs.Machine.{machine, advanced};
 ghost use lib.ListN.{length};
 ghost use Rattle.setting.specs.Allowed.{allowedOf};
 ghost use Rattle.setting.specs.Numbers.{numberOf};
 ghost use Rattle.order.specs.Steps.{steps};
 ghost use Rattle.machine.specs.Needs.{need, firstFailed};
-ghost use Rattle.machine.specs.Step.{refusalOf, execOf, stepOf, steppedAs};
-ghost use Rattle.machine.specs.Run.{runOf, ranAs};
-ghost use Rattle.machine.specs.Done.{Checked, steppedBy, movedOn, wentAs};
+ghost use Rattle.machine.specs.Step.{lengthsAre, refusalOf, execOf, stepOf, steppedAs};
+ghost use Rattle.machine.specs.Run.{runOf, ranAs, movedOn};
+ghost use Rattle.machine.specs.Private.{Checked, steppedBy, wentAs};
 use machine::Ran;
 use machine::Scalars;
 use machine::Stepped;
@@ -61,14 +60,14 @@ fn moved_on(scalars: Scalars, done: u32) -> Scalars
 }
 
 fn sized(z: usize, p: usize, zt: usize) -> bool
-    ensures { λ r. ⌜ r ≡ (eqb z 8192 && eqb p 512 && eqb zt 64) ⌝ }
+    ensures { λ r. ⌜ r ≡ lengthsAre z p zt ⌝ }
 {
-    (z == 8192) & (p == 512) & (zt == 64)
+    (z == element::VECTOR_FILE) & (p == element::PREDICATE_FILE) & (zt == element::TABLE_FILE)
 }
 
 // What so many words are refused for before any of them: 1, 2 or 8.
 fn before_any(setting: Setting, z: usize, p: usize, zt: usize, words: usize) -> Answer
-    ensures { λ r. ⌜ numberOf r ≡ firstFailed (need 1 (allowedOf setting) ∷ need 2 (eqb z 8192 && eqb p 512 && eqb zt 64) ∷ need 8 (leb words 256) ∷ []) ⌝ }
+    ensures { λ r. ⌜ numberOf r ≡ firstFailed (need 1 (allowedOf setting) ∷ need 2 (lengthsAre z p zt) ∷ need 8 (leb words 256) ∷ []) ⌝ }
 {
     if !setting::allowed(setting) {
         return Answer::NotAllowed;
@@ -94,8 +93,8 @@ fn step_in_run(
     requires { ⌜ Checked setting (machine (now z) (now p) (now zt) scalars) ⌝ }
     ensures { λ r. ⌜ steppedBy r (now (z .exit)) (now (p .exit)) (now (zt .entry)) scalars ≡ stepOf setting word (machine (now (z .entry)) (now (p .entry)) (now (zt .entry)) scalars) ⌝ }
 {
-    let row = decoder::row(setting.features, word);
-    match row {
+    let place = decoder::place(setting.features, word);
+    match place {
         0 => words::pext1(p, setting, scalars.v, scalars.s, word),
         1 => words::pext2(p, setting, scalars.v, scalars.s, word),
         2 => words::dup(

@@ -5,7 +5,7 @@ use Prim.Native.Nat.{ℕ, _+_, _-_, _%_, _≤_}
 use native.Mathlib.Omega.{arith}
 use lib.ListN.{length, take, drop, length-take}
 use lib.Seq.{take-add}
-use Rattle.listing.specs.Lines.{wordOf, lineOf, shortLine, linesOf}
+use Rattle.listing.specs.Lines.{wordOfBytes, lineOf, shortLine, linesOf}
 use Rattle.listing.specs.Claims.{LinesAppend}
 
 pub lines-append : LinesAppend
@@ -15,8 +15,8 @@ lines-append (a ∷ []) t h = absurd (omega arith)
 lines-append (a ∷ b ∷ []) t h = absurd (omega arith)
 lines-append (a ∷ b ∷ c ∷ []) t h = absurd (omega arith)
 lines-append (a ∷ b ∷ c ∷ d ∷ s) t h =
-    ap (λ (l : List ℕ). lineOf (wordOf a b c d) ++ l) (lines-append s t (omega arith))
-    ∙ sym (append-assoc (lineOf (wordOf a b c d)) (linesOf s) (linesOf t))
+    ap (λ (l : List ℕ). lineOf (wordOfBytes a b c d) ++ l) (lines-append s t (omega arith))
+    ∙ sym (append-assoc (lineOf (wordOfBytes a b c d)) (linesOf s) (linesOf t))
 
 -- the lines of the first e bytes are those of the first p, whole records, and those of the part from p to e
 pub lines-next : (input : List ℕ) (p e : ℕ) → p % 4 ≡ 0 → p ≤ e → e ≤ length input

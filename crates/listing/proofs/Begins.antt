@@ -6,7 +6,8 @@ use native.Mathlib.Omega.{arith}
 use lib.ListN.{length, take, drop, length-append, length-take, take-append-drop}
 use lib.Seq.{length-take-le, take-append-le, take-append-seam, take-add, drop-at, drop-drop}
 use borrow.Rule.Slice.PartMut.{midOf, putMid, take-put, drop-put, mid-len}
-use Rattle.listing.specs.Buffer.{over, Wrote, Begins, Began}
+use Rattle.listing.specs.Buffer.{over, Wrote}
+use Rattle.listing.specs.Private.{Begins, Began}
 use Rattle.listing.proofs.Over.{wrote-more}
 
 pub begins-within : {t a : List ℕ} {r : ℕ} → Begins t a r → r ≤ length a

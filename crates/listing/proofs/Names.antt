@@ -11,7 +11,7 @@ use Rattle.encoding.specs.Decode.{decodeOf}
 use Rattle.encoding.specs.declared.Instruction.{Instruction}
 use Rattle.encoding.proofs.Round.{column-at-place, place-lt}
 use Rattle.listing.specs.Name.{allOn, undefined, nameIn, nameOf}
-use Rattle.listing.specs.Tables.{nameAt}
+use Rattle.listing.specs.Private.{nameAt}
 
 name-in : (o : Outcome Instruction) → nameAt (placeIn o) ≡ nameIn o
 name-in (accept i) = column-at-place (λ r. r .name (rawOf i)) undefined i

@@ -6,12 +6,12 @@ use native.Mathlib.Omega.{arith}
 use lib.ListN.{length, getD, drop, length-append}
 use Rattle.listing.specs.Text.{hexDigits}
 use Rattle.listing.specs.Name.{nameOf}
-use Rattle.listing.specs.Lines.{nameLine, wordOf, lineOf, linesOf}
+use Rattle.listing.specs.Lines.{nameLine, wordOfBytes, lineOf, linesOf}
 use Rattle.listing.specs.Buffer.{Wrote}
 use Rattle.element.proofs.Spelled.{spelled}
 
 abbrev pub quadWord : List ℕ → ℕ
-quadWord q = wordOf (getD q 0 0) (getD q 1 0) (getD q 2 0) (getD q 3 0)
+quadWord q = wordOfBytes (getD q 0 0) (getD q 1 0) (getD q 2 0) (getD q 3 0)
 
 pub line-text : (q : List ℕ) {w : ℕ} {name : List ℕ} → length q ≡ 4 → w ≡ quadWord q → name ≡ nameOf w → linesOf q ≡ hexDigits 8 w ++ nameLine name
 unfolding linesOf lineOf

@@ -6,13 +6,13 @@ use Prim.Native.Nat.{ℕ, suc, _+_, _-_, _*_, _/_, _%_, _≤_}
 use native.Mathlib.Omega.{arith}
 use lib.Dec.{T, eqb, ltb, eqb→eq, ltb→lt}
 use lib.ListN.{length, getD, take, drop}
-use Rattle.element.specs.Every.{all}
+use Rattle.logic.specs.Every.{all}
 use Rattle.element.proofs.Below.{both, below}
 use Rattle.listing.specs.Text.{glyphOf}
 use Rattle.listing.specs.Lines.{nameLine}
-use Rattle.listing.specs.Buffer.{Begins, Wrote}
+use Rattle.listing.specs.Buffer.{Wrote}
+use Rattle.listing.specs.Private.{Begins, nameAt, Pairs, Tails}
 use Rattle.encoding.specs.Rows.{rows}
-use Rattle.listing.specs.Tables.{nameAt, Pairs, Tails}
 use Rattle.listing.proofs.Begins.{begins-over}
 
 abbrev pub highs : List ℕ → ℕ → Bool
@@ -68,21 +68,21 @@ pub tails-right : (names lengths : List ℕ)
 tails-right names lengths e c s l =
     record {
       size = e;
-      row =
+      begins =
           λ i h.
           record {
             count = eqb→eq (getD lengths i 0) (length (nameLine (nameAt i))) (below (counts lengths) (suc (length rows)) c i (omega arith));
             start = same-eq _ (nameLine (nameAt i)) (below (starts names lengths) (suc (length rows)) s i (omega arith));
           };
-      least = λ i h. ltb→lt 4 (getD lengths i 0) (below (longs lengths) (suc (length rows)) l i (omega arith));
+      minimum = λ i h. ltb→lt 4 (getD lengths i 0) (below (longs lengths) (suc (length rows)) l i (omega arith));
     }
 
 -- the row at i, as a function meets it that lends the part from 16 * i to 16 * i + 11
-pub row-begins : (i : ℕ) {names lengths out after : List ℕ} {k : ℕ}
+pub name-begins : (i : ℕ) {names lengths out after : List ℕ} {k : ℕ}
     → Tails names lengths
     → i ≤ length rows
     → Wrote (take (16 * i + 11 - 16 * i) (drop (16 * i) names)) out after k
     → (Begins (nameLine (nameAt i)) after (getD lengths i 0)) × (5 ≤ getD lengths i 0)
-row-begins i {out = out} t h w =
+name-begins i {out = out} t h w =
     let e : 16 * i + 11 - 16 * i ≡ 11 = omega arith in
-    (rw (w .whole, e) (begins-over out (t .row i h)), t .least i h)
+    (rw (w .whole, e) (begins-over out (t .begins i h)), t .minimum i h)

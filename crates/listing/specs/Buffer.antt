@@ -17,20 +17,10 @@ textOf input out = linesOf (take (readOf input out) input)
 abbrev pub over : List ℕ → List ℕ → List ℕ
 over text out = text ++ drop (length text) out
 
--- what the private functions promise: a text of r bytes was written at the start of a buffer
+-- a text of r bytes was written at the start of a buffer
 pub record Wrote (text before after : List ℕ) (r : ℕ) : Type 0 where
   pub count : r ≡ length text
   pub whole : after ≡ over text before
-
--- a text of r bytes stands at the start of a buffer; nothing is said of the rest
-pub record Begins (text after : List ℕ) (r : ℕ) : Type 0 where
-  pub count : r ≡ length text
-  pub start : take r after ≡ text
-
--- the same, and all but the six bytes behind the text is as it was: a line is 13 to 19 bytes long
-pub record Began (text before after : List ℕ) (r : ℕ) : Type 0 where
-  pub begins : Begins text after r
-  pub rest : drop (r + 6) after ≡ drop (r + 6) before
 
 unfoldable pub listedOf : List ℕ → List ℕ → Listed
 listedOf input out = record { read = readOf input out; written = length (textOf input out) }

@@ -3,5 +3,5 @@ pub mod Text
 pub mod Name
 pub mod Lines
 pub mod Buffer
-pub mod Tables
+pub mod Private
 pub mod Claims

@@ -16,12 +16,12 @@ abbrev pub shortLine : ℕ → List ℕ
 shortLine n = 83 ∷ 72 ∷ 79 ∷ 82 ∷ 84 ∷ 32 ∷ (48 + n) ∷ 10 ∷ []
 
 -- low byte first
-abbrev pub wordOf : ℕ → ℕ → ℕ → ℕ → ℕ
-wordOf a b c d = a + 256 * b + 65536 * c + 16777216 * d
+abbrev pub wordOfBytes : ℕ → ℕ → ℕ → ℕ → ℕ
+wordOfBytes a b c d = a + 256 * b + 65536 * c + 16777216 * d
 
 unfoldable pub linesOf : List ℕ → List ℕ
 linesOf [] = []
 linesOf (a ∷ []) = shortLine 1
 linesOf (a ∷ b ∷ []) = shortLine 2
 linesOf (a ∷ b ∷ c ∷ []) = shortLine 3
-linesOf (a ∷ b ∷ c ∷ d ∷ rest) = lineOf (wordOf a b c d) ++ linesOf rest
+linesOf (a ∷ b ∷ c ∷ d ∷ rest) = lineOf (wordOfBytes a b c d) ++ linesOf rest

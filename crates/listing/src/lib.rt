@@ -5,9 +5,9 @@ ghost use lib.ListN.{length, take};
 ghost use Rattle.listing.specs.Text.{glyphOf, hexDigits};
 ghost use Rattle.encoding.specs.Rows.{rows};
 ghost use Rattle.listing.specs.Name.{nameOf};
-ghost use Rattle.listing.specs.Lines.{nameLine, wordOf, linesOf};
-ghost use Rattle.listing.specs.Buffer.{Wrote, Begins, Began, listedOf, outOf, carriedOf};
-ghost use Rattle.listing.specs.Tables.{nameAt, Pairs, Tails};
+ghost use Rattle.listing.specs.Lines.{nameLine, wordOfBytes, linesOf};
+ghost use Rattle.listing.specs.Buffer.{Wrote, listedOf, outOf, carriedOf};
+ghost use Rattle.listing.specs.Private.{Begins, Began, nameAt, Pairs, Tails};
 ghost use Rattle.listing.specs.Claims.{LinesAppend};
 use encoding::table;
 use encoding::table::ROWS;
@@ -53,7 +53,7 @@ fn low(pairs: &[u8; 512], n: u32) -> u8
 }
 
 fn word(a: u8, b: u8, c: u8, d: u8) -> u32
-    ensures { λ r. ⌜ r ≡ wordOf a b c d ⌝ }
+    ensures { λ r. ⌜ r ≡ wordOfBytes a b c d ⌝ }
 {
     (a as u32) + 256 * (b as u32) + 65536 * (c as u32) + 16777216 * (d as u32)
 }
@@ -188,7 +188,7 @@ fn records(input: &[u8], out: &mut [u8], n: usize) -> usize
     at + more
 }
 
-fn least(a: usize, b: usize) -> usize
+fn minimum(a: usize, b: usize) -> usize
     ensures { λ r. ⌜ r ≡ min a b ⌝ }
 {
     if a < b { a } else { b }
@@ -199,7 +199,7 @@ fn least(a: usize, b: usize) -> usize
 pub fn lines(input: &[u8], out: &mut [u8]) -> Listed
     ensures { λ r. ⌜ (r ≡ listedOf (now (input .entry)) (now (out .entry))) × (now (out .exit) ≡ outOf (now (input .entry)) (now (out .entry))) × (r .written ≤ length (now (out .exit))) ⌝ }
 {
-    let read = least(4 * (out.len() / 19), input.len());
+    let read = minimum(4 * (out.len() / 19), input.len());
     let n = read / 4;
     let from = 4 * n;
     let at = records(input, out, n);

@@ -12,7 +12,7 @@ use Rattle.element.proofs.Tests.{both-yes, one-yes}
 use Rattle.part.proofs.Lengths.{lengths-of}
 use Rattle.lookup.specs.Lookup.{segmentOf}
 use Rattle.lookup.specs.Calls.{fourFit, luti4Ready}
-use Rattle.lookup.specs.Needed.{LutiReady}
+use Rattle.lookup.specs.Private.{LutiReady}
 use Rattle.lookup.proofs.Places.{size-bounds, segment-inside}
 
 module _ (z zt vl size i1 zn first stride : ℕ) (ready : luti4Ready z zt vl size i1 zn first stride ≡ true) where

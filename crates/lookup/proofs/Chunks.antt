@@ -13,7 +13,7 @@ use Rattle.element.specs.Contents.{fill}
 use Rattle.element.proofs.Filling.{turn, chunk}
 use Rattle.setting.specs.Allowed.{lengthAllowed}
 use Rattle.setting.proofs.Lengths.{length-cases}
-use Rattle.lookup.specs.Needed.{Element, Result, Chunked}
+use Rattle.lookup.specs.Private.{ElementBytes, Result, Chunked}
 use Rattle.lookup.proofs.Lookups.{sizes}
 
 -- every allowed length has less than a chunk of a destination, or some
@@ -29,13 +29,13 @@ pub record Chunks (source w n : ℕ) : Type 0 where
   pub room : n * 64 ≤ source * (2 * w)
 
 -- a chunk's elements are its bytes
-pub chunk-elements : {w : ℕ} → Element w → 32 / w * 2 * w ≡ 64
+pub chunk-elements : {w : ℕ} → ElementBytes w → 32 / w * 2 * w ≡ 64
 chunk-elements {w} v = mul-assoc (32 / w) 2 w ∙ sizes v .chunk
 
-pub chunk-bytes : {w : ℕ} (n : ℕ) → Element w → n * (32 / w) * (2 * w) ≡ n * 64
+pub chunk-bytes : {w : ℕ} (n : ℕ) → ElementBytes w → n * (32 / w) * (2 * w) ≡ n * 64
 chunk-bytes {w} n v = mul-assoc n (32 / w) (2 * w) ∙ ap (λ (x : ℕ). n * x) (sizes v .chunk)
 
-pub chunks-of : {w : ℕ} (source : ℕ) → Element w → Chunks source w (source / (32 / w))
+pub chunks-of : {w : ℕ} (source : ℕ) → ElementBytes w → Chunks source w (source / (32 / w))
 chunks-of {w} source v =
     let n = source / (32 / w) in
     let h : n * (32 / w) ≤ source = div-mul-le-self source (32 / w) in

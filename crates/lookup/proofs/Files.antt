@@ -14,7 +14,7 @@ use Rattle.element.specs.Slots.{slot}
 use Rattle.element.proofs.Filling.{fill-length, same}
 use Rattle.element.proofs.Slots.{reach, slot-part, slot-length, put-back}
 use Rattle.lookup.specs.Lookup.{positionOf, lutiOf, lutiFile}
-use Rattle.lookup.specs.Needed.{LutiReady}
+use Rattle.lookup.specs.Private.{LutiReady}
 use Rattle.lookup.proofs.Places.{each-is, elements-are, place-inside, turn-at}
 use Rattle.lookup.proofs.Lookups.{kept-field, taken-looked}
 

@@ -9,9 +9,10 @@ use lib.Seq.{getD-take, getD-drop, getD-set-same, getD-set-other}
 use borrow.Author.Count.{below-more}
 use Rattle.element.specs.Contents.{bytes, elem, field, fill}
 use Rattle.element.proofs.Filling.{part-length, same}
-use Rattle.part.specs.Parts.{Width, storedOf}
+use Rattle.part.specs.Parts.{storedOf}
+use Rattle.part.specs.Private.{Width}
 use Rattle.part.proofs.Widths.{element-stored}
-use Rattle.lookup.specs.Needed.{Element, Raised}
+use Rattle.lookup.specs.Private.{ElementBytes, Raised}
 use Rattle.lookup.proofs.Bytes.{both-bytes, both-below}
 
 -- what the code's arithmetic asks of an element's width
@@ -23,7 +24,7 @@ pub record Sizes (w : ℕ) : Type 0 where
   pub chunk : 32 / w * (2 * w) ≡ 64
   pub per : 0 < 32 / w
 
-pub sizes : {w : ℕ} → Element w → Sizes w
+pub sizes : {w : ℕ} → ElementBytes w → Sizes w
 sizes h =
     ⊎-elim
     (λ e. record { pos = omega arith; double = inr (inl (rw e)); some = rw e (omega arith); most = rw e (omega arith); chunk = rw e; per = rw e (omega arith) })
@@ -61,7 +62,7 @@ byte-looked m w q s zt p h ex ey =
 pub pair-stored : {x y : ℕ} (m w q n : ℕ) (s zt o : List ℕ) {ys : List ℕ}
     → q < n
     → length o ≡ n * (2 * w)
-    → Element w
+    → ElementBytes w
     → m ≡ 256 ^ w
     → getD s q 0 < 256
     → x ≡ elem 4 (getD s q 0 % 16) zt

@@ -6,7 +6,7 @@ use native.Mathlib.Nat.{one-mul, mul-pos, mod-lt, mul-assoc, mul-comm, mul-suc, 
 use native.Mathlib.Omega.{arith}
 use lib.Dec.{lit<}
 use Rattle.lookup.specs.Lookup.{segmentOf, positionOf}
-use Rattle.lookup.specs.Needed.{Element, Result, LutiReady}
+use Rattle.lookup.specs.Private.{ElementBytes, Result, LutiReady}
 use Rattle.lookup.specs.Claims.{PositionInside, SevenNeverComes}
 
 pub size-bounds : {s : ℕ} → Result s → (16 ≤ s) × (s ≤ 32)
@@ -62,7 +62,7 @@ elements-are vl e r = ⊎-elim (λ b. rw b (omega arith)) (λ b. rw b (omega ari
 pub second : {A B : Type 0} → A ⊎ B → (A → ⊥) → B
 second h n = ⊎-elim (λ a. absurd (n a)) (λ b. b) h
 
-pub element-of : {s : ℕ} → Result s → Element (s / 8)
+pub element-of : {s : ℕ} → Result s → ElementBytes (s / 8)
 element-of r = ⊎-map (λ b. rw b) (λ b. rw b) r
 
 -- what the code's arithmetic asks at destination r, which has `each` bytes of indexes

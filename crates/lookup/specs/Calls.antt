@@ -5,8 +5,9 @@ use Prim.Native.Nat.{ℕ, _+_, _*_}
 use lib.Dec.{eqb, ltb}
 use lib.ListN.{length}
 use Rattle.setting.specs.Allowed.{lengthAllowed}
-use Rattle.element.specs.Size.{pick}
-use Rattle.lookup.specs.Lookup.{segmentOf, lutiFile}
+use Rattle.logic.specs.Pick.{pick}
+use Rattle.element.specs.Files.{vectorFile, tableFile}
+use Rattle.lookup.specs.Lookup.{indexBits, destinations, segmentOf, lutiFile}
 
 -- four destinations, consecutive or strided, that are all registers
 abbrev pub fourFit : ℕ → ℕ → Bool
@@ -14,8 +15,8 @@ fourFit first stride = (eqb stride 1 || eqb stride 4) && ltb (first + 3 * stride
 
 unfoldable pub luti4Ready : ℕ → ℕ → ℕ → ℕ → ℕ → ℕ → ℕ → ℕ → Bool
 luti4Ready z zt vl size i1 zn first stride =
-    (eqb z 8192 && eqb zt 64 && lengthAllowed vl) && ((eqb size 16 || eqb size 32) && ltb i1 2 && ltb zn 32) && fourFit first stride
+    (eqb z vectorFile && eqb zt tableFile && lengthAllowed vl) && ((eqb size 16 || eqb size 32) && ltb i1 2 && ltb zn 32) && fourFit first stride
 
 unfoldable pub luti4File : ℕ → ℕ → ℕ → ℕ → ℕ → ℕ → List ℕ → List ℕ → List ℕ
 luti4File vl size i1 zn first stride zt z =
-    pick (luti4Ready (length z) (length zt) vl size i1 zn first stride) (lutiFile 4 size vl 4 (segmentOf 4 size 4 i1) zn first stride zt z 4) z
+    pick (luti4Ready (length z) (length zt) vl size i1 zn first stride) (lutiFile indexBits size vl destinations (segmentOf indexBits size destinations i1) zn first stride zt z destinations) z

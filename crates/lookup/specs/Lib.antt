@@ -1,4 +1,4 @@
 pub mod Lookup
 pub mod Calls
-pub mod Needed
+pub mod Private
 pub mod Claims

@@ -4,6 +4,13 @@ use Prim.Native.Nat.{ℕ, zero, suc, _+_, _*_, _/_, _%_}
 use Rattle.element.specs.Contents.{elem, field, fill}
 use Rattle.element.specs.Slots.{slot, setSlot}
 
+-- LUTI4: an index has four bits, and a word four destinations
+abbrev pub indexBits : ℕ
+indexBits = 4
+
+abbrev pub destinations : ℕ
+destinations = 4
+
 -- the segment of Zn that i names: k-bit indexes of d destinations, results of s bits, so s/(k·d) segments (LUTI4, 4 bits and four destinations: s/16)
 abbrev pub segmentOf : ℕ → ℕ → ℕ → ℕ → ℕ
 segmentOf k s d i = i % (s / (k * d))

@@ -28,7 +28,9 @@ fn luti4_ready(
 ) -> bool
     ensures { λ r. ⌜ r ≡ luti4Ready z zt vl size i1 zn first stride ⌝ }
 {
-    let lengths = (z == 8192) & (zt == 64) & setting::length_allowed(vl);
+    let lengths = (z == element::VECTOR_FILE)
+        & (zt == element::TABLE_FILE)
+        & setting::length_allowed(vl);
     let fields = ((size == 16) | (size == 32)) & (i1 < 2) & (zn < 32);
     lengths & fields & four_fit(first, stride)
 }

@@ -5,7 +5,7 @@ ghost use lib.ListN.{length};
 ghost use Rattle.element.specs.Contents.{elem, field, fill};
 ghost use Rattle.element.specs.Slots.{slot};
 ghost use Rattle.lookup.specs.Lookup.{segmentOf, lutiFile};
-ghost use Rattle.lookup.specs.Needed.{EntryReady, Raised, RaisedReady, TableReady, PairsReady, Chunked, Result, LutiReady};
+ghost use Rattle.lookup.specs.Private.{EntryReady, Raised, RaisedReady, TableReady, PairsReady, Chunked, Result, LutiReady};
 
 // The entry of ZT0 at a place.
 fn entry(zt: &[u8], i: usize) -> u64
@@ -112,7 +112,7 @@ fn index_bytes(vl: usize, size: usize) -> usize
 }
 
 // Zn is copied first, so that it may be a destination.
-fn four(
+fn four_destinations(
     z: &mut [u8],
     zt: &[u8],
     vl: usize,
@@ -157,8 +157,8 @@ pub(crate) fn luti4_file(
     ensures { λ _. ⌜ now (z .exit) ≡ lutiFile 4 size vl 4 (segmentOf 4 size 4 i1) zn first stride (now (zt .entry)) (now (z .entry)) 4 ⌝ }
 {
     if size == 16 {
-        four(z, zt, vl, 16, 0, zn, first, stride);
+        four_destinations(z, zt, vl, 16, 0, zn, first, stride);
         return;
     }
-    four(z, zt, vl, 32, i1, zn, first, stride);
+    four_destinations(z, zt, vl, 32, i1, zn, first, stride);
 }

@@ -10,7 +10,7 @@ use lib.ListN.{length}
 use borrow.Author.Tests.{leb-true}
 use Rattle.setting.specs.Allowed.{allowedOf}
 use Rattle.setting.specs.declared.Setting.{Setting}
-use Rattle.element.specs.Size.{pick}
+use Rattle.logic.specs.Pick.{pick}
 use Rattle.element.proofs.Below.{both, is-true}
 use Rattle.order.specs.Steps.{Ended, steps}
 use Rattle.encoding.specs.Layout.{fieldsOf}

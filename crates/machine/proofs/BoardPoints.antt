@@ -3,9 +3,9 @@ use mathlib.Core.Path.{refl}
 use mathlib.Core.List.{List, [], _∷_, _++_}
 use lib.Count.{trailingZeros}
 use Rattle.setting.specs.Allowed.{allowedOf}
-use Rattle.element.specs.Every.{Every}
+use Rattle.logic.specs.Every.{Every}
 use Rattle.element.specs.Size.{sizeOf}
-use Rattle.element.specs.Contents.{bytes, field, fill, gather, octet, row}
+use Rattle.element.specs.Contents.{bytes, field, fill, gather, octet, packed}
 use Rattle.encoding.specs.Decode.{decodeOf}
 use Rattle.encoding.specs.Points.{readingPoints}
 use Rattle.encoding.proofs.BoardPoints.{reading-points}
@@ -25,7 +25,7 @@ every-append [] Bs x y = y
 every-append (A ∷ As) Bs x y = (x .0, every-append As Bs (x .1) y)
 
 element-points : Every elementPoints
-unfolding decodeOf allowedOf sizeOf trailingZeros dupOf dupBit valueOf indexOf row fill bytes octet gather field
+unfolding decodeOf allowedOf sizeOf trailingZeros dupOf dupBit valueOf indexOf packed fill bytes octet gather field
 element-points = (refl, (refl, (refl, tt)))
 
 pub starred-points : Every starred

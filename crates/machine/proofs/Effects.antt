@@ -10,7 +10,7 @@ use borrow.Author.Tests.{leb-true}
 use Rattle.setting.specs.Allowed.{hasFeature}
 use Rattle.setting.specs.declared.Setting.{Setting}
 use Rattle.setting.specs.declared.Feature.the-variants.{Sve2p1}
-use Rattle.element.specs.Size.{pick}
+use Rattle.logic.specs.Pick.{pick}
 use Rattle.element.proofs.Tests.{both-yes}
 use Rattle.order.specs.Banks.{Register}
 use Rattle.order.specs.Touch.{puts}

@@ -10,7 +10,7 @@ use Rattle.setting.specs.Numbers.{Outcome, accept, refuse, numberOf}
 use Rattle.setting.specs.declared.Setting.{Setting}
 use Rattle.setting.specs.declared.Answer.{Answer}
 use Rattle.setting.specs.declared.Feature.the-variants.{Sve2p1}
-use Rattle.element.specs.Size.{pick}
+use Rattle.logic.specs.Pick.{pick}
 use Rattle.encoding.specs.Rows.{rows}
 use Rattle.encoding.specs.Places.{placeFirst}
 use Rattle.encoding.specs.Decode.{firstOf, readAt}
@@ -25,7 +25,7 @@ use Rattle.machine.specs.Machine.{Machine, machine, flagsOf}
 use Rattle.machine.specs.Needs.{need, firstFailed}
 use Rattle.machine.specs.Effects.{effectOf}
 use Rattle.machine.specs.Step.{Step, stepOf, stepAs}
-use Rattle.machine.specs.Done.{Ready, Known, PredicateWord, VectorWord, TablelessWord, HasV, HasVS, HasST, HasWV, ifDone, doneOf, executedOf, movedBy}
+use Rattle.machine.specs.Private.{Ready, Known, PredicateWord, VectorWord, TablelessWord, HasV, HasVS, HasST, HasWV, ifDone, doneOf, executedOf, movedBy}
 use Rattle.machine.specs.declared.Scalars.{Scalars}
 use Rattle.machine.proofs.Steps.{refused-for, done-for, step-executes, step-ready, step-undefined}
 use Rattle.machine.proofs.Operations.{pext1-done, pext2-done, dup-done, luti4c-done, luti4s-done, uqrshrnb-done}

@@ -10,8 +10,7 @@ use Rattle.encoding.specs.Decode.{decodeOf}
 use Rattle.encoding.specs.declared.Instruction.{Instruction}
 use Rattle.machine.specs.Machine.{Machine, scalarsOf, next, advanced}
 use Rattle.machine.specs.Step.{Step, refusalOf, execOf, after, stepOf, stepAs, steppedAs}
-use Rattle.machine.specs.Run.{refusedBefore, begun, runOf, runAs, ranAs}
-use Rattle.machine.specs.Done.{movedOn}
+use Rattle.machine.specs.Run.{refusedBefore, begun, runOf, runAs, ranAs, movedOn}
 use Rattle.machine.specs.Claims.{RunMovesPc}
 use Rattle.machine.specs.declared.Scalars.{Scalars}
 use Rattle.machine.specs.declared.Stepped.{Stepped}

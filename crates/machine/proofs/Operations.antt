@@ -26,7 +26,7 @@ use Rattle.narrow.specs.Narrow.{uqrshrnbFile}
 use Rattle.lookup.specs.Calls.{luti4Ready, luti4File}
 use Rattle.narrow.specs.Calls.{narrowReady, narrowFile}
 use Rattle.machine.specs.Machine.{machine, get, put}
-use Rattle.machine.specs.Done.{Ready, doneOf}
+use Rattle.machine.specs.Private.{Ready, doneOf}
 use Rattle.machine.specs.declared.Scalars.{Scalars}
 
 size-of-pext : (bound size portion counter pd : ℕ) → pextInRange bound size portion counter pd ≡ true → isSize size ≡ true

@@ -13,7 +13,7 @@ use Rattle.element.proofs.Slots.{setSlot-length}
 use Rattle.order.specs.Banks.{Register, sameRegister, change}
 use Rattle.order.proofs.Parts.{sets-comm, slice-before, slice-behind}
 use Rattle.order.proofs.Changes.{read-change, change-comm, length-change}
-use Rattle.machine.specs.Machine.{Machine, gap, width, files, withFiles, get, put, next}
+use Rattle.machine.specs.Machine.{Machine, gap, slotUsed, files, withFiles, get, put, next}
 use Rattle.machine.specs.Claims.{RegisterLaws}
 
 -- ---- one file
@@ -53,7 +53,7 @@ files-with (x ∷ y ∷ z ∷ u ∷ v ∷ l) m h k = absurd (omega arith)
 
 -- ---- registers
 module _ (vl : ℕ) (small : vl ≤ 2048) where
-  apart : (b j k : ℕ) → j < k → gap b * j + width vl b ≤ gap b * k
+  apart : (b j k : ℕ) → j < k → gap b * j + slotUsed vl b ≤ gap b * k
   apart zero j k h = omega arith
   apart (suc zero) j k h = omega arith
   apart (suc (suc zero)) j k h = omega arith
@@ -61,16 +61,16 @@ module _ (vl : ℕ) (small : vl ≤ 2048) where
   apart (suc (suc (suc (suc b)))) j k h = omega arith
 
   abbrev loaded : Register → List ℕ → List ℕ
-  loaded r = slot (gap (r .bank)) (width vl (r .bank)) (r .at)
+  loaded r = slot (gap (r .bank)) (slotUsed vl (r .bank)) (r .at)
 
   abbrev stored : Register → List ℕ → List ℕ → List ℕ
-  stored r c = setSlot (gap (r .bank)) (width vl (r .bank)) (r .at) c
+  stored r c = setSlot (gap (r .bank)) (slotUsed vl (r .bank)) (r .at) c
 
   files-put : (r : Register) (c : List ℕ) (m : Machine) → files (put vl r c m) ≡ change (r .bank) (stored r c) (files m)
   unfolding put
   files-put r c m =
       files-with (change (r .bank) (stored r c) (files m)) m (length-change (r .bank) (stored r c) (files m))
-      (read-change 3 (r .bank) (stored r c) length [] (files m) (λ e x. setSlot-length (gap (r .bank)) (width vl (r .bank)) (r .at) c x))
+      (read-change 3 (r .bank) (stored r c) length [] (files m) (λ e x. setSlot-length (gap (r .bank)) (slotUsed vl (r .bank)) (r .at) c x))
 
   get-put : (r s : Register) (c : List ℕ) (m : Machine) → sameRegister s r ≡ false → get vl r (put vl s c m) ≡ get vl r m
   unfolding get
@@ -81,7 +81,7 @@ module _ (vl : ℕ) (small : vl ≤ 2048) where
       inside : r .bank ≡ s .bank → (x : List ℕ) → loaded r (stored s c x) ≡ loaded r x
       inside e x =
           let k : eqb (s .at) (r .at) ≡ false = rw (eq-eqb (s .bank) (r .bank) (sym e)) at h in
-          rw e (slot-other (gap (s .bank)) (width vl (s .bank)) (apart (s .bank)) (s .at) (r .at) c x k)
+          rw e (slot-other (gap (s .bank)) (slotUsed vl (s .bank)) (apart (s .bank)) (s .at) (r .at) c x k)
 
   put-put : (r s : Register) (c d : List ℕ) (m : Machine) → sameRegister r s ≡ false → put vl r c (put vl s d m) ≡ put vl s d (put vl r c m)
   unfolding put
@@ -93,7 +93,7 @@ module _ (vl : ℕ) (small : vl ≤ 2048) where
       inside : r .bank ≡ s .bank → (x : List ℕ) → stored r c (stored s d x) ≡ stored s d (stored r c x)
       inside e x =
           let k : eqb (r .at) (s .at) ≡ false = rw (eq-eqb (r .bank) (s .bank) e) at h in
-          rw e (slots-comm (gap (s .bank)) (width vl (s .bank)) (apart (s .bank)) (r .at) (s .at) c d x k)
+          rw e (slots-comm (gap (s .bank)) (slotUsed vl (s .bank)) (apart (s .bank)) (r .at) (s .at) c d x k)
 
 pub registers : RegisterLaws
 unfolding get put next

@@ -10,8 +10,8 @@ use Rattle.setting.specs.declared.Setting.{Setting}
 use Rattle.order.specs.Steps.{Ended, steps}
 use Rattle.machine.specs.Machine.{Machine, machine, advanced}
 use Rattle.machine.specs.Step.{Step, refusalOf, execOf, after, stepOf}
-use Rattle.machine.specs.Run.{refusedBefore, undone, begun, runOf}
-use Rattle.machine.specs.Done.{Checked, movedBy, movedOn}
+use Rattle.machine.specs.Run.{refusedBefore, undone, begun, runOf, movedOn}
+use Rattle.machine.specs.Private.{Checked, movedBy}
 use Rattle.machine.specs.declared.Scalars.{Scalars}
 use Rattle.machine.proofs.Steps.{moved-done, moved-not}
 

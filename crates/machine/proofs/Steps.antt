@@ -21,7 +21,7 @@ use Rattle.machine.specs.Machine.{Machine, machine, advanced, next, flag
 use Rattle.machine.specs.Needs.{need, firstFailed}
 use Rattle.machine.specs.Effects.{effectOf}
 use Rattle.machine.specs.Step.{Step, sized, refusalOf, execOf, after, stepOf}
-use Rattle.machine.specs.Done.{Ready, Checked, doneOf, executed, executedOf, movedBy}
+use Rattle.machine.specs.Private.{Ready, Checked, doneOf, executed, executedOf, movedBy}
 use Rattle.machine.specs.declared.Scalars.{Scalars}
 
 -- ---- an instruction that was read

@@ -4,13 +4,12 @@ use mathlib.Core.Logic.{_⊎_}
 use mathlib.Core.List.{List, [], _∷_}
 use Prim.Native.Nat.{ℕ, _≤_}
 use Rattle.setting.specs.declared.Setting.{Setting}
-use Rattle.element.specs.Every.{Every}
+use Rattle.logic.specs.Every.{Every}
 use Rattle.order.specs.Banks.{sameRegister}
-use Rattle.order.specs.Touch.{Registers}
+use Rattle.order.specs.Touch.{SeparateRegisters}
 use Rattle.machine.specs.Machine.{Machine, get, put, next, flagsOf}
 use Rattle.machine.specs.Step.{stepOf}
-use Rattle.machine.specs.Run.{runOf, ranOnce}
-use Rattle.machine.specs.Done.{movedOn}
+use Rattle.machine.specs.Run.{runOf, ranOnce, movedOn}
 use Rattle.machine.specs.Points.{starred}
 
 -- document 02, request 3: a step answers 0 to 6
@@ -27,7 +26,7 @@ RunOfOneWord = (s : Setting) (w : ℕ) (m : Machine) → runOf s (w ∷ []) m �
 
 -- two registers that are not the same do not see each other, and PC and the flags stand apart, at any VL up to 2048 and of files of any length
 abbrev pub RegisterLaws : Type 0
-RegisterLaws = (vl : ℕ) → vl ≤ 2048 → Registers sameRegister (get vl) (put vl) next flagsOf
+RegisterLaws = (vl : ℕ) → vl ≤ 2048 → SeparateRegisters sameRegister (get vl) (put vl) next flagsOf
 
 -- each word that a run has done moves PC, and no word another scalar
 abbrev pub RunMovesPc : Type 0

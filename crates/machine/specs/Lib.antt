@@ -8,6 +8,6 @@ pub mod Uqrshrnb
 pub mod Effects
 pub mod Step
 pub mod Run
-pub mod Done
+pub mod Private
 pub mod Points
 pub mod Claims

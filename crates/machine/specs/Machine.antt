@@ -36,8 +36,8 @@ W k = record { bank = 3; at = k - 12 }
 abbrev pub gap : ℕ → ℕ
 gap b = getD (256 ∷ 32 ∷ 64 ∷ 1 ∷ []) b 1
 
-abbrev pub width : ℕ → ℕ → ℕ
-width vl b = getD (vl / 8 ∷ vl / 64 ∷ 64 ∷ 1 ∷ []) b 1
+abbrev pub slotUsed : ℕ → ℕ → ℕ
+slotUsed vl b = getD (vl / 8 ∷ vl / 64 ∷ 64 ∷ 1 ∷ []) b 1
 
 abbrev pub files : Machine → List (List ℕ)
 files m = m .z ∷ m .p ∷ m .zt ∷ (m .scalars .w12 ∷ m .scalars .w13 ∷ m .scalars .w14 ∷ m .scalars .w15 ∷ []) ∷ []
@@ -50,10 +50,10 @@ withFiles l m = record { z = getD l 0 []; p = getD l 1 []; zt = getD l 2 []; sca
 
 -- what a register holds, and the machine with it set
 unfoldable pub get : ℕ → Register → Machine → List ℕ
-get vl r m = slot (gap (r .bank)) (width vl (r .bank)) (r .at) (getD (files m) (r .bank) [])
+get vl r m = slot (gap (r .bank)) (slotUsed vl (r .bank)) (r .at) (getD (files m) (r .bank) [])
 
 unfoldable pub put : ℕ → Register → List ℕ → Machine → Machine
-put vl r c m = withFiles (change (r .bank) (setSlot (gap (r .bank)) (width vl (r .bank)) (r .at) c) (files m)) m
+put vl r c m = withFiles (change (r .bank) (setSlot (gap (r .bank)) (slotUsed vl (r .bank)) (r .at) c) (files m)) m
 
 -- an accepted word adds 4 to PC; the sum wraps
 abbrev pub advanced : Scalars → Scalars

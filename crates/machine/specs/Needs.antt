@@ -2,7 +2,7 @@
 use mathlib.Core.Bool.{Bool}
 use mathlib.Core.List.{List, [], _∷_}
 use Prim.Native.Nat.{ℕ}
-use Rattle.element.specs.Size.{pick}
+use Rattle.logic.specs.Pick.{pick}
 
 pub record Need : Type 0 where
   pub number : ℕ

@@ -4,7 +4,7 @@ use Prim.Native.Nat.{ℕ, _+_, _*_, _%_}
 use Rattle.setting.specs.Allowed.{hasFeature}
 use Rattle.setting.specs.declared.Feature.the-variants.{Sve2p1}
 use Rattle.setting.specs.declared.Setting.{Setting}
-use Rattle.element.specs.Size.{pick}
+use Rattle.logic.specs.Pick.{pick}
 use Rattle.pext.specs.Pext.{pextOf}
 use Rattle.machine.specs.Machine.{P, Flags}
 use Rattle.machine.specs.Needs.{Need, need}

@@ -7,7 +7,7 @@ use Rattle.setting.specs.Allowed.{allowedOf}
 use Rattle.setting.specs.Numbers.{numberOf}
 use Rattle.setting.specs.declared.Setting.{Setting}
 use Rattle.order.specs.Steps.{Ended, steps}
-use Rattle.machine.specs.Machine.{Machine, machine}
+use Rattle.machine.specs.Machine.{Machine, machine, advanced}
 use Rattle.machine.specs.Needs.{need, firstFailed}
 use Rattle.machine.specs.Step.{sized, refusalOf, execOf, Step}
 use Rattle.machine.specs.declared.Scalars.{Scalars}
@@ -44,3 +44,8 @@ runAs n d z p zt c = record { answer = n; done = d; left = machine z p zt c }
 -- what `run` answers, with the files at exit
 abbrev pub ranAs : Ran → List ℕ → List ℕ → List ℕ → Ended Machine
 ranAs r z p zt = runAs (numberOf (r .answer)) (r .done) z p zt (r .scalars)
+
+-- after n words that were done PC has moved n times, and no other scalar
+unfoldable pub movedOn : ℕ → Scalars → Scalars
+movedOn zero c = c
+movedOn (suc n) c = advanced (movedOn n c)

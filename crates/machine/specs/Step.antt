@@ -7,7 +7,8 @@ use lib.ListN.{length}
 use Rattle.setting.specs.Allowed.{allowedOf}
 use Rattle.setting.specs.Numbers.{Outcome, accept, refuse, numberOf}
 use Rattle.setting.specs.declared.Setting.{Setting}
-use Rattle.element.specs.Size.{pick}
+use Rattle.logic.specs.Pick.{pick}
+use Rattle.element.specs.Files.{vectorFile, predicateFile, tableFile}
 use Rattle.order.specs.Banks.{Register}
 use Rattle.order.specs.Touch.{perform, fromReads}
 use Rattle.encoding.specs.Decode.{decodeOf}
@@ -19,8 +20,11 @@ use Rattle.machine.specs.declared.Scalars.{Scalars}
 use Rattle.machine.specs.declared.Stepped.{Stepped}
 
 -- 2: each file has its length
+abbrev pub lengthsAre : ℕ → ℕ → ℕ → Bool
+lengthsAre z p zt = eqb z vectorFile && eqb p predicateFile && eqb zt tableFile
+
 abbrev pub sized : Machine → Bool
-sized m = eqb (length (m .z)) 8192 && eqb (length (m .p)) 512 && eqb (length (m .zt)) 64
+sized m = lengthsAre (length (m .z)) (length (m .p)) (length (m .zt))
 
 -- what a word reads, writes and gives; nothing where it cannot be read
 abbrev pub overWord : {A : Type 0} → A → (Instruction → A) → Outcome Instruction → A

@@ -6,11 +6,12 @@ use Prim.Native.Nat.{ℕ, _*_, _/_, _%_, _≤_}
 use native.Mathlib.Nat.{mul-assoc, div-eq-of-eq-mul-left}
 use native.Mathlib.Omega.{arith}
 use Rattle.element.specs.Contents.{elem, fill}
-use Rattle.element.specs.Size.{pick, isResult}
+use Rattle.logic.specs.Pick.{pick}
+use Rattle.element.specs.Size.{isResult}
 use Rattle.element.specs.Slots.{slot, setSlot}
-use Rattle.part.specs.Parts.{Width}
+use Rattle.part.specs.Private.{Width}
 use Rattle.narrow.specs.Narrow.{narrowed, uqrshrnbOf, uqrshrnbFile}
-use Rattle.narrow.specs.Needed.{ChunksReady, NarrowReady}
+use Rattle.narrow.specs.Private.{ChunksReady, NarrowReady}
 
 module _ {file vl s shift zn zd : ℕ} (op : NarrowReady file vl s shift zn zd) (n per w : ℕ) (count : n ≡ vl / 128 % 32) (whole : per * w ≡ 16) (some : 1 ≤ w) (width : Width w) (size : s ≡ 4 * w) where
   bytes-are : n * 16 ≡ vl / 8

@@ -5,12 +5,14 @@ use Prim.Native.Nat.{ℕ}
 use lib.Dec.{eqb, leb, ltb}
 use lib.ListN.{length}
 use Rattle.setting.specs.Allowed.{lengthAllowed}
-use Rattle.element.specs.Size.{pick, isResult}
+use Rattle.logic.specs.Pick.{pick}
+use Rattle.element.specs.Size.{isResult}
+use Rattle.element.specs.Files.{vectorFile}
 use Rattle.narrow.specs.Narrow.{uqrshrnbFile}
 
 -- what is asked beside the size, which the code tests where each has its loop
 abbrev pub restReady : ℕ → ℕ → ℕ → ℕ → ℕ → ℕ → Bool
-restReady z vl size shift zn zd = (eqb z 8192 && lengthAllowed vl) && (ltb 0 shift && leb shift size) && (ltb zn 32 && ltb zd 32)
+restReady z vl size shift zn zd = (eqb z vectorFile && lengthAllowed vl) && (ltb 0 shift && leb shift size) && (ltb zn 32 && ltb zd 32)
 
 unfoldable pub narrowReady : ℕ → ℕ → ℕ → ℕ → ℕ → ℕ → Bool
 narrowReady z vl size shift zn zd = isResult size && restReady z vl size shift zn zd

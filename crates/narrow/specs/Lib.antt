@@ -1,4 +1,4 @@
 pub mod Narrow
 pub mod Calls
-pub mod Needed
+pub mod Private
 pub mod Points

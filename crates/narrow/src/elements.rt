@@ -3,10 +3,11 @@ ghost use mathlib.Core.Path.{_≡_};
 ghost use Prim.Native.Nat.{_*_};
 ghost use lib.ListN.{length};
 ghost use Rattle.element.specs.Contents.{elem, fill};
-ghost use Rattle.element.specs.Size.{pick, isResult};
+ghost use Rattle.logic.specs.Pick.{pick};
+ghost use Rattle.element.specs.Size.{isResult};
 ghost use Rattle.element.specs.Slots.{slot, setSlot};
 ghost use Rattle.narrow.specs.Narrow.{narrowed, uqrshrnbFile};
-ghost use Rattle.narrow.specs.Needed.{EachReady, ChunksReady, NarrowReady};
+ghost use Rattle.narrow.specs.Private.{EachReady, ChunksReady, NarrowReady};
 use crate::one;
 
 // Each of the n elements of s, narrowed, into o.

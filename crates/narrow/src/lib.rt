@@ -5,14 +5,14 @@ mod one;
 ghost use mathlib.Core.Path.{_≡_};
 ghost use lib.ListN.{length};
 ghost use Rattle.narrow.specs.Calls.{restReady, narrowReady, narrowFile};
-ghost use Rattle.element.specs.Every.{Every};
+ghost use Rattle.logic.specs.Every.{Every};
 ghost use Rattle.narrow.specs.Points.{narrowPoints};
 
 // All but that the size is one of three, which is tested where each has its loop.
 fn rest_ready(z: usize, vl: u32, size: u32, shift: u32, zn: u32, zd: u32) -> bool
     ensures { λ r. ⌜ r ≡ restReady z vl size shift zn zd ⌝ }
 {
-    let lengths = (z == 8192) & setting::length_allowed(vl);
+    let lengths = (z == element::VECTOR_FILE) & setting::length_allowed(vl);
     let fields = (0 < shift) & (shift <= size);
     lengths & fields & ((zn < 32) & (zd < 32))
 }

@@ -3,7 +3,7 @@
 ghost use mathlib.Core.Path.{_≡_};
 ghost use Prim.Native.Nat.{_*_, _≤_};
 ghost use Rattle.narrow.specs.Narrow.{narrowed};
-ghost use Rattle.narrow.specs.Needed.{OneReady};
+ghost use Rattle.narrow.specs.Private.{OneReady};
 
 // To 8 bits. Raised so that the cut is the sum that saturates, and lowered again: the processor has it for 16 bits.
 fn narrow_one16(x: u16, shift: u16) -> u16

@@ -1,7 +1,7 @@
 // An instruction as seven numbers, and back. A form that is not in the table, and a list of another length, are out of range.
 ghost use mathlib.Core.Path.{_≡_};
 ghost use Rattle.setting.specs.Numbers.{accept};
-ghost use Rattle.element.specs.Size.{pick};
+ghost use Rattle.logic.specs.Pick.{pick};
 ghost use Rattle.encoding.specs.declared.Instruction.the-variants.{Luti4c, Luti4s};
 ghost use Rattle.encoding.specs.Decode.{decodedAs};
 ghost use Rattle.numbers.specs.Fields.{numbersOf, numbersInto, instructionAt, instructionOf};

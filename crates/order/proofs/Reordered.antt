@@ -9,7 +9,8 @@ use native.Mathlib.Decide.{ℕ-discrete}
 use lib.ListN.{length, getD}
 use borrow.Author.Tests.{ne-eqb}
 use Rattle.order.specs.Rearranged.{count, place, Rearrangement, Permitted, rearranged}
-use Rattle.order.specs.Steps.{Ended, steps, Independent}
+use Rattle.order.specs.Steps.{Ended, steps}
+use Rattle.order.specs.Private.{Independent}
 use Rattle.order.proofs.Counted.{count-same, count-tail, place-same, place-other, remove, remove-same, remove-other, count-rest, Ascending, ascending-remove}
 use Rattle.order.proofs.Positions.{upto, ascending-upto, map-upto, held-alike, held-once, held-below}
 use Rattle.order.proofs.Runs.{taken, head-taken, tail-taken, after-first}

@@ -5,8 +5,8 @@ use mathlib.Core.List.{List, [], _∷_, _++_}
 use Prim.Native.Nat.{ℕ, _<_}
 use native.Mathlib.Omega.{arith}
 use lib.ListN.{length}
-use Rattle.order.specs.Touch.{holds, meet, conflicting, gets, puts, perform, Registers}
-use Rattle.order.specs.Steps.{Independent}
+use Rattle.order.specs.Touch.{holds, meet, conflicting, gets, puts, perform, SeparateRegisters}
+use Rattle.order.specs.Private.{Independent}
 
 -- ---- lists of registers
 or-left : (a b : Bool) → a || b ≡ false → a ≡ false
@@ -57,7 +57,7 @@ module _ {R : Type 0} (same : R → R → Bool) where
     unfolding conflicting
     copies-conflict reads writes w h = rw (meet-self (writes w) (reads w) h)
 
-module _ {M R C F : Type 0} (same : R → R → Bool) (get : R → M → C) (put : R → C → M → M) (next : M → M) (flags : M → F) (L : Registers same get put next flags) where
+module _ {M R C F : Type 0} (same : R → R → Bool) (get : R → M → C) (put : R → C → M → M) (next : M → M) (flags : M → F) (L : SeparateRegisters same get put next flags) where
   -- ---- one write, and reads or writes of others
   gets-put : (s : R) (v : C) (rs : List R) (m : M) → holds same s rs ≡ false → gets get rs (put s v m) ≡ gets get rs m
   unfolding gets holds

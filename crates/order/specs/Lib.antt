@@ -3,3 +3,4 @@ pub mod Touch
 pub mod Rearranged
 pub mod Tested
 pub mod Steps
+pub mod Private

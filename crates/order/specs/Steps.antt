@@ -1,6 +1,4 @@
--- Document 01, "A run takes a stretch", on any machine: words stepped from the first, and what lets two words change places.
-use mathlib.Core.Path.{_≡_}
-use mathlib.Core.Bool.{Bool, false}
+-- Document 01, "A run takes a stretch", on any machine: words stepped from the first.
 use mathlib.Core.List.{List, [], _∷_}
 use Prim.Native.Nat.{ℕ, zero, suc}
 
@@ -15,9 +13,3 @@ module _ {M : Type 0} (refusal : ℕ → M → ℕ) (exec : ℕ → M → M) whe
   unfoldable pub steps : List ℕ → ℕ → M → Ended M
   steps [] n m = record { answer = 0; done = n; left = m }
   steps (w ∷ ws) n m = elim (refusal w m) [ zero ↦ steps ws (suc n) (exec w m) | suc k ↦ record { answer = suc k; done = n; left = m } ]
-
--- where two words do not conflict, neither changes what the other is refused for, and they may change places; of words that conflict nothing is asked
-pub record Independent {M : Type 0} (refusal : ℕ → M → ℕ) (exec : ℕ → M → M) (conflict : ℕ → ℕ → Bool) : Type 0 where
-  pub kept : (v w : ℕ) (m : M) → conflict v w ≡ false → refusal w (exec v m) ≡ refusal w m
-  pub kept-back : (v w : ℕ) (m : M) → conflict v w ≡ false → refusal v (exec w m) ≡ refusal v m
-  pub swap : (v w : ℕ) (m : M) → conflict v w ≡ false → exec w (exec v m) ≡ exec v (exec w m)

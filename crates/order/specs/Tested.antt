@@ -4,7 +4,7 @@ use mathlib.Core.List.{List}
 use Prim.Native.Nat.{ℕ}
 use lib.Dec.{eqb, ltb}
 use lib.ListN.{length, getD}
-use Rattle.element.specs.Every.{all}
+use Rattle.logic.specs.Every.{all}
 use Rattle.order.specs.Rearranged.{count, place}
 
 -- the order is as long as the stretch, and each position stands in it once

@@ -36,7 +36,7 @@ abbrev pub fromReads : {M R C : Type 0} → (R → M → C) → (ℕ → List R)
 fromReads get reads gives w m = gives w (gets get (reads w) m)
 
 -- what is asked of registers: two that are not the same do not see each other, and the counter and the flags stand apart
-pub record Registers {M R C F : Type 0} (same : R → R → Bool) (get : R → M → C) (put : R → C → M → M) (next : M → M) (flags : M → F) : Type 0 where
+pub record SeparateRegisters {M R C F : Type 0} (same : R → R → Bool) (get : R → M → C) (put : R → C → M → M) (next : M → M) (flags : M → F) : Type 0 where
   pub get-put : (r s : R) (v : C) (m : M) → same s r ≡ false → get r (put s v m) ≡ get r m
   pub put-put : (r s : R) (u v : C) (m : M) → same r s ≡ false → put r u (put s v m) ≡ put s v (put r u m)
   pub get-next : (r : R) (m : M) → get r (next m) ≡ get r m

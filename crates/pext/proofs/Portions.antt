@@ -7,17 +7,17 @@ use native.Mathlib.Numerals.{add-one}
 use native.Mathlib.Omega.{arith}
 use lib.ListN.{length, drop}
 use lib.Seq.{take-take}
-use Rattle.element.specs.Size.{pick}
+use Rattle.logic.specs.Pick.{pick}
 use Rattle.element.specs.Contents.{num, elem}
 use Rattle.element.specs.Slots.{slot, setSlot}
-use Rattle.element.proofs.Filling.{row-length}
+use Rattle.element.proofs.Filling.{packed-length}
 use Rattle.element.proofs.Slots.{reach, slot-part}
 use Rattle.counter.specs.Portion.{portionBit, portionOf}
 use Rattle.pext.specs.Pext.{pextOf, pextSlots, pextReady, pextLeaves}
 
 pub portion-length : (vl size p c : ℕ) → length (portionOf vl size p c) ≡ vl / 64
 unfolding portionOf
-portion-length vl size p c = row-length (portionBit vl size p c) (vl / 64)
+portion-length vl size p c = packed-length (portionBit vl size p c) (vl / 64)
 
 pub one-more : (vl size first pd n x : ℕ) (c f p q : List ℕ)
     → x ≡ elem 2 0 c

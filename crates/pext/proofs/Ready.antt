@@ -13,7 +13,7 @@ use Rattle.element.proofs.Tests.{both-yes, one-yes}
 use Rattle.counter.specs.Portion.{extractable}
 use Rattle.counter.proofs.Lengths.{length-is}
 use Rattle.pext.specs.Pext.{pextReady}
-use Rattle.pext.specs.Operands.{Portion}
+use Rattle.pext.specs.Private.{Portion}
 
 pub record Ready (bytes vl log first portions pn pd : ℕ) : Type 0 where
   pub file : bytes ≡ 512

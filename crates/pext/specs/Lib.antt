@@ -1,3 +1,3 @@
 pub mod Pext
-pub mod Operands
+pub mod Private
 pub mod Points

@@ -1,7 +1,7 @@
 -- Document 01, "Points on the board": starred cases 6 and 9. VL 128.
 use mathlib.Core.Path.{_≡_}
 use mathlib.Core.List.{List, [], _∷_}
-use Rattle.element.specs.Every.{Every}
+use Rattle.logic.specs.Every.{Every}
 use Rattle.pext.specs.Pext.{pextOf}
 
 abbrev pub pextPoints : List (Type 0)

@@ -5,16 +5,17 @@ ghost use lib.ListN.{length};
 ghost use Rattle.element.specs.Units.{sizeAt};
 ghost use Rattle.element.specs.Contents.{elem};
 ghost use Rattle.element.specs.Slots.{slot, setSlot};
+ghost use Rattle.element.specs.Files.{predicateFile};
 ghost use Rattle.counter.specs.Portion.{portionOf};
 ghost use Rattle.pext.specs.Pext.{pextReady, pextLeaves};
-ghost use Rattle.pext.specs.Operands.{Portion};
+ghost use Rattle.pext.specs.Private.{Portion};
 ghost use Rattle.pext.specs.Points.{Claims};
 use counter::Counter;
 
 fn can_pext(bytes: usize, vl: u32, log: u32, first: u32, portions: u32, pn: u32, pd: u32) -> bool
     ensures { λ r. ⌜ r ≡ pextReady bytes vl (sizeAt log) first portions pn pd ⌝ }
 {
-    (bytes == 512)
+    (bytes == element::PREDICATE_FILE)
         & setting::length_allowed(vl)
         & (log < 4)
         & ((portions == 1) | (portions == 2))
@@ -24,7 +25,7 @@ fn can_pext(bytes: usize, vl: u32, log: u32, first: u32, portions: u32, pn: u32,
 
 // The counter in Pn: its low two bytes, whatever the length.
 fn source(p: &[u8], pn: u32) -> Counter
-    requires { ⌜ (length (now p) ≡ 512) × (pn < 16) ⌝ }
+    requires { ⌜ (length (now p) ≡ predicateFile) × (pn < 16) ⌝ }
     ensures { λ r. ⌜ r .0 ≡ elem 2 0 (slot 32 2 pn (now (p .entry))) ⌝ }
 {
     let a = 32 * (pn as usize);

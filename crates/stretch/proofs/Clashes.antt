@@ -8,25 +8,25 @@ use Rattle.order.specs.Banks.{Register, sameRegister}
 use Rattle.order.specs.Touch.{holds, meet, conflicting}
 use Rattle.machine.specs.Step.{reads, writes}
 use Rattle.stretch.specs.Conflict.{conflict}
-use Rattle.element.specs.Bits.{shares}
-use Rattle.stretch.specs.Bits.{startOf, bitOf, bitsOf, touchOf, clashes}
+use Rattle.element.specs.Private.{shares}
+use Rattle.stretch.specs.Private.{startOf, registerBit, bitsOf, touchOf, clashes}
 use Rattle.element.proofs.Shared.{shares-or, shares-none, or-shares, powers-share}
 use Rattle.machine.proofs.Effects.{Known, AllKnown}
 use Rattle.stretch.proofs.Known.{own-bit, known-word}
 
 -- a register's bit is among a list's bits exactly when the list holds the register
-pub bit-held : (r : Register) (ss : List Register) → Known r → AllKnown ss → shares (bitOf r) (bitsOf ss) ≡ holds sameRegister r ss
-unfolding bitsOf bitOf holds
-bit-held r [] h k = shares-none (bitOf r)
+pub bit-held : (r : Register) (ss : List Register) → Known r → AllKnown ss → shares (registerBit r) (bitsOf ss) ≡ holds sameRegister r ss
+unfolding bitsOf registerBit holds
+bit-held r [] h k = shares-none (registerBit r)
 bit-held r (s ∷ ss) h k =
-    or-shares (bitOf r) (bitOf s) (bitsOf ss)
+    or-shares (registerBit r) (registerBit s) (bitsOf ss)
     ∙ ap₂ (λ (x y : Bool). x || y) (powers-share (startOf (r .bank) + r .at) (startOf (s .bank) + s .at) ∙ own-bit r s h (k .0)) (bit-held r ss h (k .1))
 
 pub bits-meet : (rs ss : List Register) → AllKnown rs → AllKnown ss → shares (bitsOf rs) (bitsOf ss) ≡ meet sameRegister rs ss
 unfolding bitsOf meet
 bits-meet [] ss h k = refl
 bits-meet (r ∷ rs) ss h k =
-    shares-or (bitOf r) (bitsOf rs) (bitsOf ss) ∙ ap₂ (λ (x y : Bool). x || y) (bit-held r ss (h .0) k) (bits-meet rs ss (h .1) k)
+    shares-or (registerBit r) (bitsOf rs) (bitsOf ss) ∙ ap₂ (λ (x y : Bool). x || y) (bit-held r ss (h .0) k) (bits-meet rs ss (h .1) k)
 
 -- ---- a list in two parts
 or-exchange : (a b c d : Bool) → (a || b) || (c || d) ≡ (a || c) || (b || d)

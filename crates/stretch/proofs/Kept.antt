@@ -7,19 +7,19 @@ use lib.Dec.{eqb}
 use lib.ListN.{length, getD}
 use Rattle.setting.specs.Allowed.{lengthAllowed, featuresAllowed, allowedOf}
 use Rattle.setting.specs.declared.Setting.{Setting}
-use Rattle.element.specs.Size.{pick}
+use Rattle.logic.specs.Pick.{pick}
 use Rattle.element.specs.Slots.{setSlot}
 use Rattle.element.proofs.Slots.{setSlot-length}
 use Rattle.element.proofs.Tests.{both-yes}
 use Rattle.encoding.specs.Decode.{decodeOf}
 use Rattle.order.specs.Banks.{Register, sameRegister, change}
-use Rattle.order.specs.Touch.{Registers, fromReads}
-use Rattle.order.specs.Steps.{Independent}
+use Rattle.order.specs.Touch.{SeparateRegisters, fromReads}
+use Rattle.order.specs.Private.{Independent}
 use Rattle.order.proofs.Changes.{read-change}
 use Rattle.order.proofs.Touches.{independent}
 use Rattle.part.proofs.Lengths.{lengths-of}
-use Rattle.machine.specs.Machine.{Machine, Flags, gap, width, files, get, put, next, flagsOf}
-use Rattle.machine.specs.Step.{sized, reads, writes, gives, verdict, refusalOf, execOf}
+use Rattle.machine.specs.Machine.{Machine, Flags, gap, slotUsed, files, get, put, next, flagsOf}
+use Rattle.machine.specs.Step.{lengthsAre, sized, reads, writes, gives, verdict, refusalOf, execOf}
 use Rattle.machine.proofs.Registers.{registers}
 use Rattle.stretch.specs.Conflict.{conflict}
 
@@ -36,13 +36,10 @@ keptOf m = kept (flagsOf m) (sized m)
 -- ---- no word changes it
 -- a register that is set leaves each file as long as it was
 file-kept : (vl a : ℕ) (r : Register) (c : List ℕ) (m : Machine)
-    → length (getD (change (r .bank) (setSlot (gap (r .bank)) (width vl (r .bank)) (r .at) c) (files m)) a []) ≡ length (getD (files m) a [])
+    → length (getD (change (r .bank) (setSlot (gap (r .bank)) (slotUsed vl (r .bank)) (r .at) c) (files m)) a []) ≡ length (getD (files m) a [])
 file-kept vl a r c m =
-    read-change a (r .bank) (setSlot (gap (r .bank)) (width vl (r .bank)) (r .at) c) length [] (files m)
-    (λ e x. setSlot-length (gap (r .bank)) (width vl (r .bank)) (r .at) c x)
-
-abbrev lengthsAre : ℕ → ℕ → ℕ → Bool
-lengthsAre z p zt = eqb z 8192 && eqb p 512 && eqb zt 64
+    read-change a (r .bank) (setSlot (gap (r .bank)) (slotUsed vl (r .bank)) (r .at) c) length [] (files m)
+    (λ e x. setSlot-length (gap (r .bank)) (slotUsed vl (r .bank)) (r .at) c x)
 
 sized-put : (vl : ℕ) (r : Register) (c : List ℕ) (m : Machine) → sized (put vl r c m) ≡ sized m
 unfolding put
@@ -51,7 +48,7 @@ sized-put vl r c m =
     ∙ ap (λ (n : ℕ). lengthsAre (length (m .z)) n (length (put vl r c m .zt))) (file-kept vl 1 r c m)
     ∙ ap (λ (n : ℕ). lengthsAre (length (m .z)) (length (m .p)) n) (file-kept vl 2 r c m)
 
-kept-laws : (vl : ℕ) → vl ≤ 2048 → Registers sameRegister (get vl) (put vl) next keptOf
+kept-laws : (vl : ℕ) → vl ≤ 2048 → SeparateRegisters sameRegister (get vl) (put vl) next keptOf
 unfolding put next
 kept-laws vl small =
     let L = registers vl small in

@@ -11,7 +11,7 @@ use borrow.Author.Tests.{eq-eqb, ne-eqb}
 use Rattle.setting.specs.declared.Setting.{Setting}
 use Rattle.setting.specs.Numbers.{Outcome, accept, refuse}
 use Rattle.element.proofs.Below.{below}
-use Rattle.element.specs.Every.{all}
+use Rattle.logic.specs.Every.{all}
 use Rattle.order.specs.Banks.{Register, sameRegister}
 use Rattle.encoding.specs.Decode.{decodeOf}
 use Rattle.encoding.specs.Instructions.{inRange}
@@ -21,7 +21,7 @@ use Rattle.encoding.proofs.Round.{read-in-range}
 use Rattle.machine.specs.Effects.{effectOf}
 use Rattle.machine.specs.Step.{reads, writes, overWord}
 use Rattle.machine.proofs.Effects.{roomOf, Known, AllKnown, fine}
-use Rattle.stretch.specs.Bits.{startOf}
+use Rattle.stretch.specs.Private.{startOf}
 
 -- ---- a bit of its own
 bank-lt : (b k : ℕ) → k < roomOf b → b < 4

@@ -5,7 +5,7 @@ pub mod Copies
 pub mod Permissions
 pub mod Known
 pub mod Clashes
-pub mod Rows
+pub mod TouchBits
 pub mod Readings
 pub mod Turns
 pub mod Places

@@ -10,7 +10,7 @@ use lib.Dec.{ltb}
 use lib.ListN.{length}
 use borrow.Author.Tests.{ne-eqb, ltb-true, lt-ltb}
 use Rattle.order.specs.Rearranged.{count, place}
-use Rattle.element.specs.Every.{all}
+use Rattle.logic.specs.Every.{all}
 use Rattle.order.specs.Tested.{rearranges}
 use Rattle.order.proofs.Counted.{count-same, place-same, place-other, remove, count-remove, length-remove}
 use Rattle.element.proofs.Below.{each-holds, all-true}

@@ -11,12 +11,11 @@ use Rattle.setting.specs.Allowed.{allowedOf}
 use Rattle.setting.specs.Numbers.{accept, refuse}
 use Rattle.setting.specs.declared.Setting.{Setting}
 use Rattle.order.specs.Rearranged.{place}
-use Rattle.element.specs.Every.{all}
+use Rattle.logic.specs.Every.{all}
 use Rattle.order.specs.Tested.{keeps, rearranges, permits}
 use Rattle.stretch.specs.Conflict.{conflict}
 use Rattle.stretch.specs.Permission.{allRead, permittedBy, permittedOf}
-use Rattle.stretch.specs.Bits.{touchOf, clashes}
-use Rattle.stretch.specs.Tables.{touchAt, keepsAt, standsAt}
+use Rattle.stretch.specs.Private.{touchOf, clashes, touchAt, keepsAt, standsAt}
 use Rattle.stretch.proofs.Clashes.{clash-is-conflict}
 use Rattle.stretch.proofs.Listed.{listed-rearranges}
 

@@ -13,7 +13,7 @@ use Rattle.encoding.specs.declared.Decoded.the-variants.{Fields, Refused}
 use Rattle.machine.specs.Effects.{effectOf}
 use Rattle.machine.specs.Step.{overWord}
 use Rattle.stretch.specs.Conflict.{conflict, isRead, ifRead, conflictOf}
-use Rattle.stretch.specs.Bits.{touchBy, touchIn, touchOf, readingOf, readingAs, clashes}
+use Rattle.stretch.specs.Private.{touchBy, touchIn, touchOf, readingOf, readingAs, clashes}
 use Rattle.stretch.specs.declared.touch.Touch.{Touch}
 use Rattle.stretch.specs.declared.touch.Reading.{Reading}
 use Rattle.stretch.specs.declared.touch.Reading.the-variants.{Touches, Refused as Unread}

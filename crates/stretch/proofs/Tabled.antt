@@ -12,10 +12,9 @@ use borrow.Author.Count.{below-more}
 use borrow.Author.Tests.{lt-ltb, le-ltb}
 use Rattle.element.proofs.Tests.{said-no, said-yes}
 use Rattle.setting.specs.declared.Setting.{Setting}
-use Rattle.element.specs.Every.{all}
+use Rattle.logic.specs.Every.{all}
 use Rattle.stretch.specs.Conflict.{isRead}
-use Rattle.stretch.specs.Bits.{touchOf, clashes}
-use Rattle.stretch.specs.Tables.{touchAt, keepsAt, standsAt}
+use Rattle.stretch.specs.Private.{touchOf, clashes, touchAt, keepsAt, standsAt}
 use Rattle.stretch.specs.declared.touch.Touch.{Touch}
 use Rattle.stretch.proofs.Turns.{all-more, turned, kept}
 

@@ -7,7 +7,7 @@ use native.Mathlib.Omega.{arith}
 use lib.Dec.{ltb, leb}
 use borrow.Author.Tests.{leb-true, leb-false, le-ltb, lt-ltb}
 use Rattle.element.proofs.Tests.{both-yes}
-use Rattle.element.specs.Every.{all}
+use Rattle.logic.specs.Every.{all}
 
 module _ (f : ℕ → Bool) where
   pub all-more : (n : ℕ) → all f n ≡ true → f n ≡ true → all f (n + 1) ≡ true

@@ -1,5 +1,4 @@
 pub mod Conflict
 pub mod Permission
 pub mod Claims
-pub mod Bits
-pub mod Tables
+pub mod Private

@@ -9,7 +9,7 @@ use Rattle.setting.specs.Allowed.{allowedOf}
 use Rattle.setting.specs.Numbers.{Outcome, accept, refuse}
 use Rattle.setting.specs.declared.Setting.{Setting}
 use Rattle.order.specs.Rearranged.{Rearrangement, Permitted}
-use Rattle.element.specs.Every.{all}
+use Rattle.logic.specs.Every.{all}
 use Rattle.order.specs.Tested.{rearranges, permits}
 use Rattle.machine.specs.Needs.{need, firstFailed}
 use Rattle.stretch.specs.Conflict.{conflict, isRead}

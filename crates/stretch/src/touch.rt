@@ -6,7 +6,7 @@ ghost use Prim.Native.Nat.{_+_, _*_, _^_, _≤_, _<_};
 ghost use Rattle.encoding.specs.Instructions.{inRange};
 ghost use Rattle.machine.specs.Machine.{Z, P, W};
 ghost use Rattle.machine.specs.Effects.{effectOf};
-ghost use Rattle.stretch.specs.Bits.{bitOf, bitsOf, joined, touchBy, readingAs, readingOf, clashes};
+ghost use Rattle.stretch.specs.Private.{registerBit, bitsOf, joined, touchBy, readingAs, readingOf, clashes};
 use encoding::Decoded;
 use encoding::Instruction;
 use setting::Answer;
@@ -34,14 +34,14 @@ fn bit(n: u32) -> u64
 
 fn vector(k: u32) -> u64
     requires { ⌜ k < 32 ⌝ }
-    ensures { λ r. ⌜ r ≡ bitOf (Z k) ⌝ }
+    ensures { λ r. ⌜ r ≡ registerBit (Z k) ⌝ }
 {
     bit(k)
 }
 
 fn predicate(k: u32) -> u64
     requires { ⌜ k < 16 ⌝ }
-    ensures { λ r. ⌜ r ≡ bitOf (P k) ⌝ }
+    ensures { λ r. ⌜ r ≡ registerBit (P k) ⌝ }
 {
     bit(32 + k)
 }
@@ -49,13 +49,13 @@ fn predicate(k: u32) -> u64
 // W12 to W15.
 fn scalar(k: u32) -> u64
     requires { ⌜ (12 ≤ k) × (k < 16) ⌝ }
-    ensures { λ r. ⌜ r ≡ bitOf (W k) ⌝ }
+    ensures { λ r. ⌜ r ≡ registerBit (W k) ⌝ }
 {
     bit(37 + k)
 }
 
 // Four vectors, so far apart.
-fn four(k: u32, gap: u32) -> u64
+fn four_vectors(k: u32, gap: u32) -> u64
     requires { ⌜ k + 3 * gap < 32 ⌝ }
     ensures { λ r. ⌜ r ≡ bitsOf (Z k ∷ Z (k + gap) ∷ Z (k + 2 * gap) ∷ Z (k + 3 * gap) ∷ []) ⌝ }
 {
@@ -92,8 +92,8 @@ fn touch_of(instruction: Instruction) -> Touch
             predicate(pg) | (predicate(pn) | scalar(index)),
             predicate(pd),
         ),
-        Instruction::Luti4c { zn, zd, .. } => join(vector(zn) | ZT0, four(zd, 1)),
-        Instruction::Luti4s { zn, zd, .. } => join(vector(zn) | ZT0, four(zd, 4)),
+        Instruction::Luti4c { zn, zd, .. } => join(vector(zn) | ZT0, four_vectors(zd, 1)),
+        Instruction::Luti4s { zn, zd, .. } => join(vector(zn) | ZT0, four_vectors(zd, 4)),
         Instruction::Uqrshrnb { zn, zd, .. } => join(vector(zn), vector(zd)),
     }
 }

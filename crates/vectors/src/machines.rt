@@ -85,7 +85,7 @@ fn flags_of(s: Scalars) -> u32 {
 }
 
 // A file is as long as the question says, and no longer than its buffer.
-fn least(asked: u32, room: usize) -> usize
+fn minimum(asked: u32, room: usize) -> usize
     ensures { λ r. ⌜ r ≤ room ⌝ }
 {
     let n = asked as usize;
@@ -155,9 +155,9 @@ fn line(z: &mut [u8], p: &mut [u8], zt: &mut [u8], asked: Asked, words: &[u32]) 
 // The same on as much of each buffer as the question has of the file.
 fn at_lengths(z: &mut [u8], p: &mut [u8], zt: &mut [u8], asked: Asked, words: &[u32]) -> [u32; 15] {
     let start = asked.start;
-    let zn = least(start[9], z.len());
-    let pn = least(start[10], p.len());
-    let tn = least(start[11], zt.len());
+    let zn = minimum(start[9], z.len());
+    let pn = minimum(start[10], p.len());
+    let tn = minimum(start[11], zt.len());
     line(&mut z[..zn], &mut p[..pn], &mut zt[..tn], asked, words)
 }
 

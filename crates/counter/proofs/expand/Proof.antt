@@ -1,71 +1,80 @@
--- `expand` meets its contract: the whole expansion is a strip, and the zeros behind it were there before.
-use mathlib.Core.Path.{_≡_, refl, sym, ap, _∙_}
-use mathlib.Core.Bool.{Bool, true}
-use mathlib.Core.List.{[]}
-use Prim.Native.Nat.{ℕ, _/_}
+-- `expand` meets its contract: the bits before the edge, or behind it, under the places of the size.
+use mathlib.Core.Path.{_≡_, sym, ap, _∙_}
+use mathlib.Core.Bool.{Bool, true, false}
+use Prim.Native.Nat.{ℕ, _-_, _/_, _^_}
 use native.Mathlib.Omega.{arith}
 use borrow.Author.Needs.{needs}
-use lib.Dec.{lit<}
-use lib.ListN.{length, take, replicate}
-use lib.Seq.{length-take-le}
-use Rattle.setting.specs.Allowed.{lengthAllowed}
-use Rattle.element.specs.Size.{pick}
-use Rattle.element.specs.Contents.{row}
-use Rattle.counter.specs.Counter.{expansionOf, padded}
-use Rattle.counter.specs.Strips.{stripBit, Length}
-use Rattle.counter.proofs.Lengths.{length-is}
-use Rattle.counter.proofs.Parts.{expansion-strip, mask-is}
+use borrow.Author.Tests.{eq-eqb, ne-eqb}
+use lib.Bits.{bitAnd}
+use lib.Dec.{eqb, ltb}
+use Rattle.element.specs.Contents.{gather}
+use Rattle.counter.specs.Counter.{inverts, flipped}
+use Rattle.counter.specs.Private.{maskAt}
+use Rattle.counter.proofs.Lengths.{inverts-is}
+use Rattle.counter.proofs.Masks.{mask-is, no-mask}
+use Rattle.counter.proofs.Words.{flipped-bits}
 use Rattle.counter.proofs.expand.Statement.{statement}
 use Rattle.counter.proofs.expand.Tie as tie
 
-length-allowed-requires : tie.Need-length-allowed-requires
-length-allowed-requires c κs = search needs
-
-allowed : (c : tie.Then1) → lengthAllowed (c .before .before .args .vl) ≡ true
-allowed c = sym (c .before .length-allowed .ensures) ∙ c .if1 .taken
-
-known : (c : tie.Then1) → Length (c .before .before .args .vl)
-known c = length-is (c .before .before .args .vl) (allowed c)
-
-cast-n : tie.Need-cast-n
-cast-n c = search needs
-
-array-borrow-prefix-m : tie.Need-array-borrow-prefix-m
-array-borrow-prefix-m c = let l = known c in omega arith
-
--- the part that is lent
-part-is : (c : tie.Then1) → _≡_ {A = ℕ} (length (take (c .before .before .args .vl / 16) (replicate {A = ℕ} 128 0))) (c .before .before .args .vl / 16)
-part-is c = let l = known c in length-take-le (c .before .before .args .vl / 16) (replicate {A = ℕ} 128 0) (omega arith)
-
-slice-aggregate-strip : tie.Need-slice-aggregate-strip
-slice-aggregate-strip c = sym (part-is (c .before))
-
-strip-requires : tie.Need-strip-requires
-strip-requires c κs =
-    let l = known (c .before) in
-    (record { length = l; small = lit< tt; whole = refl }, rw (part-is (c .before)) (record { few = λ h. absurd (omega arith); many = λ h. omega arith; fits = omega arith }))
+cast-b : tie.Need-cast-b
+cast-b c = search needs
 
 returns : tie.Need-returns
-returns c =
-    let t = c .before .before .before in
-    let a = t .before .before .args in
-    mask-is (a .vl) (a .c .0) _ (known t .most) (c .before .strip .ensures ∙ ap (row (stripBit (a .vl) (a .c .0) 0 0)) (part-is t) ∙ expansion-strip (a .vl) (a .c .0))
-    ∙ ap (λ (b : Bool). padded (pick b (expansionOf (a .vl) (a .c .0)) [])) (sym (allowed t))
+returns c = let a = c .before .before .args in no-mask (a .vl) (a .c .0) (a .z) (a .from) (c .if1 .taken)
+
+places-requires : tie.Need-places-requires
+places-requires c κs = c .before .before .pre .some (c .if1 .left)
+
+edge-requires : tie.Need-edge-requires
+edge-requires c κs = let e = c .before in (e .before .before .pre .length, e .before .before .pre .some (e .if1 .left))
+
+saturating-sub-requires : tie.Need-saturating-sub-requires
+saturating-sub-requires c κs = search needs
+
+ones-requires : tie.Need-ones-requires
+ones-requires c κs = search needs
+
+sub-t12 : tie.Need-sub-t12
+sub-t12 c = search needs
+
+-- x: the bits before the edge, or behind it
+mask : (c : tie.After-ones) (inv : Bool) (x : ℕ)
+    → inverts (c .before .before .before .before .before .before .args .c .0) ≡ inv
+    → x ≡ gather (λ b. flipped inv (ltb b (c .before .saturating-sub .result))) 0 64
+    → bitAnd x (c .before .before .before .places .result) ≡ maskAt (c .before .before .before .before .before .before .args .vl) (c .before .before .before .before .before .before .args .c .0) (c .before .before .before .before .before .before .args .z) (c .before .before .before .before .before .before .args .from)
+mask c inv x ei ex =
+    let p = c .before .before .before in
+    let e = p .before in
+    let s = e .before .before in
+    let a = s .args in
+    mask-is (a .vl) (a .c .0) (a .z) (a .from) (s .pre .whole) (e .if1 .left) (s .pre .some (e .if1 .left)) inv (c .before .saturating-sub .result) x (p .places .result) ei
+    (c .before .saturating-sub .ensures ∙ ap (λ (t : ℕ). t - a .from) (c .before .before .edge .ensures))
+    ex (p .places .ensures)
+
+-- bit 15
+inverts-bit : (c : tie.After-ones) → eqb (c .before .before .before .before .before .before .args .c .0 / 32768) 1 ≡ inverts (c .before .before .before .before .before .before .args .c .0)
+inverts-bit c = let k = c .before .before .before .before .before in inverts-is (k .before .args .c .0) (omega arith)
 
 returns-2 : tie.Need-returns-2
-unfolding padded
 returns-2 c =
-    let a = c .before .before .args in
-    ap (λ (b : Bool). padded (pick b (expansionOf (a .vl) (a .c .0)) [])) (sym (sym (c .before .length-allowed .ensures) ∙ c .if1 .left))
+    let o = c .before in
+    mask o true _ (sym (inverts-bit o) ∙ eq-eqb _ 1 (c .if2 .taken)) (ap (λ (x : ℕ). 2 ^ 64 - 1 - x) (o .ones .ensures) ∙ flipped-bits (λ b. ltb b (o .before .saturating-sub .result)))
+
+returns-3 : tie.Need-returns-3
+returns-3 c =
+    let o = c .before in
+    mask o false _ (sym (inverts-bit o) ∙ ne-eqb _ 1 (c .if2 .left)) (o .ones .ensures)
 
 pub expand-spec : {M : Type 1} → statement M
 expand-spec =
     tie.close
     (tie.spec
-    length-allowed-requires
-    cast-n
-    array-borrow-prefix-m
-    slice-aggregate-strip
-    strip-requires
+    cast-b
     returns
-    returns-2)
+    places-requires
+    edge-requires
+    saturating-sub-requires
+    ones-requires
+    sub-t12
+    returns-2
+    returns-3)

@@ -12,14 +12,14 @@ allowed-requires c κs = search needs
 returns : tie.Need-returns
 returns c = decode-not-allowed _ _ (said-no (c .before .allowed .ensures) (c .if1 .taken))
 
-row-of-requires : tie.Need-row-of-requires
-row-of-requires c κs = search needs
+place-of-requires : tie.Need-place-of-requires
+place-of-requires c κs = search needs
 
 read-requires : tie.Need-read-requires
 read-requires c κs = search needs
 
 returns-2 : tie.Need-returns-2
-returns-2 c = c .read .ensures ∙ decode-row _ _ (said-yes (c .before .before .before .allowed .ensures) (c .before .before .if1 .left)) _ (c .before .row-of .ensures)
+returns-2 c = c .read .ensures ∙ decode-row _ _ (said-yes (c .before .before .before .allowed .ensures) (c .before .before .if1 .left)) _ (c .before .place-of .ensures)
 
 pub decode-spec : {M : Type 1} → statement M
-decode-spec = tie.close (tie.spec allowed-requires returns row-of-requires read-requires returns-2)
+decode-spec = tie.close (tie.spec allowed-requires returns place-of-requires read-requires returns-2)

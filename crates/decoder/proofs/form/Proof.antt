@@ -13,11 +13,11 @@ allowed-requires c κs = search needs
 returns : tie.Need-returns
 returns c = ap placeIn (decode-not-allowed _ _ (said-no (c .before .allowed .ensures) (c .if1 .taken)))
 
-row-of-requires : tie.Need-row-of-requires
-row-of-requires c κs = search needs
+place-of-requires : tie.Need-place-of-requires
+place-of-requires c κs = search needs
 
 returns-2 : tie.Need-returns-2
-returns-2 c = form-place _ _ (said-yes (c .before .before .allowed .ensures) (c .before .if1 .left)) _ (c .row-of .ensures)
+returns-2 c = form-place _ _ (said-yes (c .before .before .allowed .ensures) (c .before .if1 .left)) _ (c .place-of .ensures)
 
 pub form-spec : {M : Type 1} → statement M
-form-spec = tie.close (tie.spec allowed-requires returns row-of-requires returns-2)
+form-spec = tie.close (tie.spec allowed-requires returns place-of-requires returns-2)

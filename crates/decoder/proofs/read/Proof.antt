@@ -62,7 +62,7 @@ returns-6 : tie.Need-returns-6
 returns-6 c = rw (c .before .before .match .keys6) (c .uqrshrnb2 .ensures ∙ c .before .uqrshrnb .ensures .0)
 
 returns-7 : tie.Need-returns-7
-returns-7 c = sym (read-past rows (c .before .args .row) _ (omega arith))
+returns-7 c = sym (read-past rows (c .before .args .place) _ (omega arith))
 
 pub read-spec : {M : Type 1} → statement M
 read-spec =

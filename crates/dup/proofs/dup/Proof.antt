@@ -6,7 +6,7 @@ use lib.ListN.{length}
 use Rattle.element.specs.Units.{sizeAt}
 use Rattle.element.proofs.Tests.{said-no, said-yes}
 use Rattle.dup.specs.Dup.{dupReady}
-use Rattle.dup.specs.Operands.{Registers}
+use Rattle.dup.specs.Private.{DuplicateReady}
 use Rattle.dup.proofs.Ready.{dup-ready, worked, untouched}
 use borrow.Author.Needs.{needs}
 use Rattle.dup.proofs.dup.Statement.{statement}
@@ -26,7 +26,7 @@ can c = said-yes (c .before .can-dup .ensures) (c .if1 .left)
 -- what the work asks
 ready : (c : tie.Else1) (name : ℕ)
     → c .before .before .before .args .vl ≡ name
-    → Registers (length (c .before .before .before .args .p .now)) name (c .before .before .before .args .log) (c .before .before .before .args .pg) (c .before .before .before .args .pn) (c .before .before .before .args .pd)
+    → DuplicateReady (length (c .before .before .before .args .p .now)) name (c .before .before .before .args .log) (c .before .before .before .args .pg) (c .before .before .before .args .pn) (c .before .before .before .args .pd)
 ready c name e = rw (sym e) (dup-ready _ _ _ _ _ _ _ (can c))
 
 duplicate-requires : tie.Need-duplicate-requires

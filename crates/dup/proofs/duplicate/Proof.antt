@@ -6,7 +6,7 @@ use Prim.Native.Nat.{ℕ, _+_, _/_}
 use native.Mathlib.Omega.{arith}
 use lib.ListN.{length, take}
 use lib.Seq.{take-take}
-use Rattle.element.specs.Contents.{row}
+use Rattle.element.specs.Contents.{packed}
 use Rattle.element.specs.Slots.{slot}
 use Rattle.element.specs.Units.{sizeAt}
 use Rattle.element.proofs.Slots.{slot-part, slot-length, loaded, part-length, put-back}
@@ -118,8 +118,8 @@ returns c =
     let v : r .result ≡ valueOf (a .vl) (sizeAt (a .log)) sum pn = r .ensures ∙ ap (valueOf (a .vl) (sizeAt (a .log)) sum) (slot-part 32 n (a .pn) (a .p .now) (omega arith)) in
     put-back 32 n (a .pd) (a .p .now) _ (dupOf (a .vl) (sizeAt (a .log)) sum pg pn) (omega arith) (dup-length (a .vl) (sizeAt (a .log)) sum pg pn)
     (c .before .before .spread .ensures
-    ∙ ap (row (dupBit (sizeAt (a .log)) (r .result) (take n (y .copy .last .1 .0)))) (part-length 32 n (a .pd) (a .p .now) (omega arith))
-    ∙ ap₂ (λ (x : Bool) (l : List ℕ). row (dupBit (sizeAt (a .log)) x l) n) v (held y))
+    ∙ ap (packed (dupBit (sizeAt (a .log)) (r .result) (take n (y .copy .last .1 .0)))) (part-length 32 n (a .pd) (a .p .now) (omega arith))
+    ∙ ap₂ (λ (x : Bool) (l : List ℕ). packed (dupBit (sizeAt (a .log)) x l) n) v (held y))
 
 pub duplicate-spec : {M : Type 1} → statement M
 duplicate-spec =

@@ -9,7 +9,8 @@ use Rattle.setting.specs.declared.Setting.{Setting}
 use Rattle.order.specs.Steps.{steps}
 use Rattle.machine.specs.Machine.{machine}
 use Rattle.machine.specs.Step.{refusalOf, execOf}
-use Rattle.machine.specs.Done.{Checked, movedOn}
+use Rattle.machine.specs.Private.{Checked}
+use Rattle.machine.specs.Run.{movedOn}
 use Rattle.machine.specs.declared.Scalars.{Scalars}
 use Rattle.machine.proofs.Runs.{moved-on-none, moved-on-once, stopped-unmoved, went-on-moved, ended, still-checked}
 use Rattle.interpreter.proofs.checked_run.Statement.{statement}

@@ -6,8 +6,8 @@ use borrow.Author.Needs.{needs}
 use Rattle.interpreter.proofs.step_in_run.Statement.{statement}
 use Rattle.interpreter.proofs.step_in_run.Tie as tie
 
-row-requires : tie.Need-row-requires
-row-requires c κs = search needs
+place-requires : tie.Need-place-requires
+place-requires c κs = search needs
 
 pext1-requires : tie.Need-pext1-requires
 pext1-requires c κs = search needs
@@ -31,46 +31,46 @@ same-length : tie.Need-same-length
 same-length c = search needs
 
 returns : tie.Need-returns
-returns c = let b = c .before .before .before .before in c .before .before .pext1 .ensures _ _ _ (refl, refl) (record { checked = b .before .before .before .before .before .pre; place = sym (b .match .keys1) ∙ b .before .row .ensures })
+returns c = let b = c .before .before .before .before in c .before .before .pext1 .ensures _ _ _ (refl, refl) (record { checked = b .before .before .before .before .before .pre; place = sym (b .match .keys1) ∙ b .before .place .ensures })
 
 same-length-2 : tie.Need-same-length-2
 same-length-2 c = search needs
 
 returns-2 : tie.Need-returns-2
-returns-2 c = let b = c .before .before .before .before in c .before .before .pext2 .ensures _ _ _ (refl, refl) (record { checked = b .before .before .before .before .before .pre; place = sym (b .match .keys2) ∙ b .before .row .ensures })
+returns-2 c = let b = c .before .before .before .before in c .before .before .pext2 .ensures _ _ _ (refl, refl) (record { checked = b .before .before .before .before .before .pre; place = sym (b .match .keys2) ∙ b .before .place .ensures })
 
 same-length-3 : tie.Need-same-length-3
 same-length-3 c = search needs
 
 returns-3 : tie.Need-returns-3
-returns-3 c = let b = c .before .before .before .before in c .before .before .dup .ensures _ _ _ (refl, refl, refl, refl, refl) (record { checked = b .before .before .before .before .before .pre; place = sym (b .match .keys3) ∙ b .before .row .ensures })
+returns-3 c = let b = c .before .before .before .before in c .before .before .dup .ensures _ _ _ (refl, refl, refl, refl, refl) (record { checked = b .before .before .before .before .before .pre; place = sym (b .match .keys3) ∙ b .before .place .ensures })
 
 same-length-4 : tie.Need-same-length-4
 same-length-4 c = search needs
 
 returns-4 : tie.Need-returns-4
-returns-4 c = let b = c .before .before .before .before in c .before .before .luti4c .ensures _ _ (refl, refl) (record { checked = b .before .before .before .before .before .pre; place = sym (b .match .keys4) ∙ b .before .row .ensures })
+returns-4 c = let b = c .before .before .before .before in c .before .before .luti4c .ensures _ _ (refl, refl) (record { checked = b .before .before .before .before .before .pre; place = sym (b .match .keys4) ∙ b .before .place .ensures })
 
 same-length-5 : tie.Need-same-length-5
 same-length-5 c = search needs
 
 returns-5 : tie.Need-returns-5
-returns-5 c = let b = c .before .before .before .before in c .before .before .luti4s .ensures _ _ (refl, refl) (record { checked = b .before .before .before .before .before .pre; place = sym (b .match .keys5) ∙ b .before .row .ensures })
+returns-5 c = let b = c .before .before .before .before in c .before .before .luti4s .ensures _ _ (refl, refl) (record { checked = b .before .before .before .before .before .pre; place = sym (b .match .keys5) ∙ b .before .place .ensures })
 
 same-length-6 : tie.Need-same-length-6
 same-length-6 c = search needs
 
 returns-6 : tie.Need-returns-6
-returns-6 c = let b = c .before .before .before .before in c .before .before .uqrshrnb .ensures _ _ _ refl (record { checked = b .before .before .before .before .before .pre; place = sym (b .match .keys6) ∙ b .before .row .ensures })
+returns-6 c = let b = c .before .before .before .before in c .before .before .uqrshrnb .ensures _ _ _ refl (record { checked = b .before .before .before .before .before .pre; place = sym (b .match .keys6) ∙ b .before .place .ensures })
 
 returns-7 : tie.Need-returns-7
-returns-7 c = no-row _ _ (c .before .row .result) _ (record { checked = c .before .before .before .before .before .pre; place = c .before .row .ensures }) (omega arith)
+returns-7 c = no-row _ _ (c .before .place .result) _ (record { checked = c .before .before .before .before .before .pre; place = c .before .place .ensures }) (omega arith)
 
 pub step-in-run-spec : {M : Type 1} → statement M
 step-in-run-spec =
     tie.close
     (tie.spec
-    row-requires
+    place-requires
     pext1-requires
     pext2-requires
     dup-requires

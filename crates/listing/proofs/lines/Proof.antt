@@ -20,11 +20,11 @@ answer : (input out : List ℕ) {after : List ℕ} {n m : ℕ}
 unfolding listedOf outOf
 answer input out e w = (rw (w .count, e), rw (w .whole, e), wrote-within w)
 
-mul-least : tie.Need-mul-least
-mul-least c = search needs
+mul-minimum : tie.Need-mul-minimum
+mul-minimum c = search needs
 
-least-requires : tie.Need-least-requires
-least-requires c κs = search needs
+minimum-requires : tie.Need-minimum-requires
+minimum-requires c κs = search needs
 
 mul-from : tie.Need-mul-from
 mul-from c = search needs
@@ -39,7 +39,7 @@ returns : tie.Need-returns
 returns c =
     let r = c .before .before .before in
     let s = r .before .before .before .before .before in
-    answer (s .args .input .now) (s .args .out .now) (r .before .before .least .ensures) (rw (c .if1 .taken) at (r .records .ensures .0))
+    answer (s .args .input .now) (s .args .out .now) (r .before .before .minimum .ensures) (rw (c .if1 .taken) at (r .records .ensures .0))
 
 add-end : tie.Need-add-end
 add-end c = search needs
@@ -77,8 +77,8 @@ returns-2 c =
     let t = c .before .before .short in
     let r = c .before .before .before .before .before .before .before .before in
     let s = r .before .before .before .before .before in
-    let n = r .before .before .least .result in
-    answer (s .args .input .now) (s .args .out .now) (r .before .before .least .ensures)
+    let n = r .before .before .minimum .result in
+    answer (s .args .input .now) (s .args .out .now) (r .before .before .minimum .ensures)
     (rw (lines-next (s .args .input .now) (4 * (n / 4)) n (omega arith) (omega arith) (omega arith))
     (wrote-more {e = r .records .result + 19} (r .records .ensures .0) (t .ensures) (t .kept .1 .0) (omega arith) (omega arith)))
 
@@ -86,8 +86,8 @@ pub lines-spec : {M : Type 1} → statement M
 lines-spec =
     tie.close
     (tie.spec
-    mul-least
-    least-requires
+    mul-minimum
+    minimum-requires
     mul-from
     records-requires
     same-length

@@ -6,7 +6,8 @@ use native.Mathlib.Omega.{arith}
 use lib.ListN.{length, take, drop, length-take, length-drop}
 use borrow.Rule.Slice.PartMut.{midOf, putMid}
 use Rattle.listing.specs.Lines.{linesOf}
-use Rattle.listing.specs.Buffer.{Wrote, Began}
+use Rattle.listing.specs.Buffer.{Wrote}
+use Rattle.listing.specs.Private.{Began}
 use Rattle.listing.proofs.Over.{wrote-fits, part-fits}
 use Rattle.listing.proofs.Begins.{began-last}
 use Rattle.listing.proofs.Append.{lines-next}

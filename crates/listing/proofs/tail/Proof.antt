@@ -1,5 +1,5 @@
 -- `listing::tail` meets its contract: what is put is the row at i, which begins with the name by the tables' rule.
-use Rattle.listing.proofs.Tables.{row-begins}
+use Rattle.listing.proofs.Tables.{name-begins}
 use borrow.Author.Needs.{needs}
 use Rattle.listing.proofs.tail.Statement.{statement}
 use Rattle.listing.proofs.tail.Tie as tie
@@ -35,7 +35,7 @@ returns : tie.Need-returns
 returns c =
     let p = c .before .before .before in
     let s = p .before .before .before .before .before in
-    row-begins (s .args .i) (s .pre .0) (s .pre .1) (p .put .ensures)
+    name-begins (s .args .i) (s .pre .0) (s .pre .1) (p .put .ensures)
 
 pub tail-spec : {M : Type 1} → statement M
 tail-spec =

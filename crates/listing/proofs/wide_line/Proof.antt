@@ -9,7 +9,7 @@ use borrow.Author.Needs.{needs}
 use Rattle.listing.specs.Text.{hexDigits}
 use Rattle.listing.specs.Name.{nameOf}
 use Rattle.listing.specs.Lines.{nameLine, linesOf}
-use Rattle.listing.specs.Buffer.{Begins}
+use Rattle.listing.specs.Private.{Begins}
 use Rattle.listing.proofs.Begins.{wrote-begins, begins-within, begins-more}
 use Rattle.listing.proofs.Parts.{quadWord, line-text, digits-first}
 use Rattle.listing.proofs.wide_line.Statement.{statement}

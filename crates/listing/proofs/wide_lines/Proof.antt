@@ -5,7 +5,7 @@ use Prim.Native.Nat.{ℕ, _+_, _-_, _*_, _≤_}
 use native.Mathlib.Omega.{arith}
 use lib.ListN.{length, take, length-take, length-drop}
 use Rattle.listing.specs.Lines.{linesOf}
-use Rattle.listing.specs.Buffer.{Began}
+use Rattle.listing.specs.Private.{Began}
 use Rattle.listing.proofs.Begins.{begins-within, began-more}
 use Rattle.listing.proofs.Append.{lines-next}
 use Rattle.listing.proofs.wide_lines.Statement.{statement}

@@ -5,7 +5,7 @@ use lib.ListN.{length}
 use Rattle.element.proofs.Tests.{said-no, said-yes}
 use Rattle.lookup.specs.Lookup.{segmentOf}
 use Rattle.lookup.specs.Calls.{luti4File}
-use Rattle.lookup.specs.Needed.{LutiReady}
+use Rattle.lookup.specs.Private.{LutiReady}
 use Rattle.lookup.proofs.Accepted.{luti4-accepted}
 use borrow.Author.Needs.{needs}
 use Rattle.lookup.proofs.luti4.Statement.{statement}

@@ -4,7 +4,7 @@ use mathlib.Core.Bool.{Bool}
 use Prim.Native.Nat.{_+_, _-_, _*_, _/_}
 use native.Mathlib.Omega.{arith}
 use lib.ListN.{take, drop}
-use Rattle.element.specs.Size.{pick}
+use Rattle.logic.specs.Pick.{pick}
 use Rattle.element.specs.Units.{sizeAt}
 use Rattle.element.proofs.Slots.{part-length, put-back}
 use Rattle.counter.specs.Portion.{portionOf, extractable}

@@ -1,8 +1,9 @@
--- `above_lowest` meets its contract: a quarter of the size is a power of two, and a quotient by 0 is 0.
+-- `above_lowest` meets its contract: past 31 places nothing of a 32-bit number is left.
 use mathlib.Core.Path.{sym}
-use native.Mathlib.Nat.{div-zero}
-use borrow.Author.Tests.{le-ltb}
-use Rattle.decoder.proofs.Logs.{quarter}
+use Prim.Native.Nat.{_+_, _^_, _≤_, _<_}
+use native.Mathlib.Nat.{div-eq-of-lt, pow-le-pow-right}
+use native.Mathlib.Omega.{arith}
+use lib.Dec.{lit<}
 use borrow.Author.Needs.{needs}
 use Rattle.decoder.proofs.fields.above_lowest.Statement.{statement}
 use Rattle.decoder.proofs.fields.above_lowest.Tie as tie
@@ -14,10 +15,13 @@ shr-result : tie.Need-shr-result
 shr-result c = search needs
 
 returns : tie.Need-returns
-returns c = rw (quarter (c .before .args .log) (c .if1 .taken))
+returns c = search needs
 
 returns-2 : tie.Need-returns-2
-returns-2 c = simp (le-ltb _ _ (c .if1 .left)) (sym (div-zero (c .before .args .bits)))
+returns-2 c =
+    let a = c .before .args in
+    let far : 2 ^ 32 ≤ 2 ^ (a .log + 1) = pow-le-pow-right {n = 2} (lit< tt) {i = 32} {j = a .log + 1} (omega arith) in
+    sym (div-eq-of-lt (omega (arith, far)))
 
 pub above-lowest-spec : {M : Type 1} → statement M
 above-lowest-spec = tie.close (tie.spec add-result shr-result returns returns-2)

@@ -15,8 +15,8 @@ dup-tsz-requires c κs = search needs
 add-bits : tie.Need-add-bits
 add-bits c = search needs
 
-log-said-requires : tie.Need-log-said-requires
-log-said-requires c κs = search needs
+log-of-field-requires : tie.Need-log-of-field-requires
+log-of-field-requires c κs = search needs
 
 above-lowest-requires : tie.Need-above-lowest-requires
 above-lowest-requires c κs = search needs
@@ -28,8 +28,8 @@ returns : tie.Need-returns
 returns c =
     let w = c .before .before .before .args .word in
     let t = w / 0x400000 % 2 * 8 + w / 0x40000 % 8 in
-    rw (c .above-lowest .ensures, c .before .log-said .ensures, c .before .before .dup-tsz .ensures, size-by-log (w / 0x800000 % 2 * 16 + t), div-one w)
+    rw (c .above-lowest .ensures, c .before .log-of-field .ensures, c .before .before .dup-tsz .ensures, size-by-log (w / 0x800000 % 2 * 16 + t), div-one w)
 
 pub dup-spec : {M : Type 1} → statement M
 dup-spec =
-    tie.close (tie.spec mul-bits dup-tsz-requires add-bits log-said-requires above-lowest-requires add-index returns)
+    tie.close (tie.spec mul-bits dup-tsz-requires add-bits log-of-field-requires above-lowest-requires add-index returns)

@@ -2,10 +2,10 @@
 use mathlib.Core.Path.{ap, _∙_}
 use Prim.Native.Nat.{ℕ}
 use lib.ListN.{length}
-use Rattle.element.specs.Size.{pick}
+use Rattle.logic.specs.Pick.{pick}
 use Rattle.element.specs.Units.{sizeAt}
 use Rattle.element.proofs.Units.{at-log}
-use Rattle.dup.proofs.Elements.{dup-row}
+use Rattle.dup.proofs.Elements.{dup-packed}
 use borrow.Author.Needs.{needs}
 use Rattle.dup.proofs.governed.spread.Statement.{statement}
 use Rattle.dup.proofs.governed.spread.Tie as tie
@@ -28,7 +28,7 @@ returns c =
     let s = k .before .before .before .before in
     let a = s .args in
     c .before .before .masked .ensures
-    ∙ dup-row (a .pg .now) (λ j. k .before .before .before .shared-slice-known .given j .fits) (sizeAt (a .log)) (a .log) (at-log (a .log) (s .pre .0)) (length (a .o .now)) (k .kept .result) (a .v)
+    ∙ dup-packed (a .pg .now) (λ j. k .before .before .before .shared-slice-known .given j .fits) (sizeAt (a .log)) (a .log) (at-log (a .log) (s .pre .0)) (length (a .o .now)) (k .kept .result) (a .v)
     (k .kept .ensures ∙ ap (λ (m : ℕ). pick (a .v) m 0) (k .before .pattern-of .ensures))
 
 pub spread-spec : {M : Type 1} → statement M

@@ -18,24 +18,24 @@ larger c = ⊎-elim (λ e. absurd (c .if1 .left e)) (λ e. e) (c .before .before
 two : (c : tie.Else1) → let a = c .before .before .before .args in segmentOf 4 (a .size) 4 (a .i1) ≡ a .i1
 two c = rw (larger c) (omega arith)
 
-four-requires : tie.Need-four-requires
-four-requires c κs = rw (one (c .before), c .before .if1 .taken) at (c .before .before .before .before .pre .0)
+four-destinations-requires : tie.Need-four-destinations-requires
+four-destinations-requires c κs = rw (one (c .before), c .before .if1 .taken) at (c .before .before .before .before .pre .0)
 
 same-length : tie.Need-same-length
 same-length c = search needs
 
 returns : tie.Need-returns
-returns c = rw (one (c .before .before .before .before), c .before .before .before .before .if1 .taken) (c .before .before .four .ensures)
+returns c = rw (one (c .before .before .before .before), c .before .before .before .before .if1 .taken) (c .before .before .four-destinations .ensures)
 
-four-requires-2 : tie.Need-four-requires-2
-four-requires-2 c κs = rw (two (c .before), larger (c .before)) at (c .before .before .before .before .pre .0)
+four-destinations-requires-2 : tie.Need-four-destinations-requires-2
+four-destinations-requires-2 c κs = rw (two (c .before), larger (c .before)) at (c .before .before .before .before .pre .0)
 
 same-length-2 : tie.Need-same-length-2
 same-length-2 c = search needs
 
 returns-2 : tie.Need-returns-2
-returns-2 c = rw (two (c .before .before .before .before), larger (c .before .before .before .before)) (c .before .before .four2 .ensures)
+returns-2 c = rw (two (c .before .before .before .before), larger (c .before .before .before .before)) (c .before .before .four-destinations2 .ensures)
 
 pub luti4-file-spec : {M : Type 1} → statement M
 luti4-file-spec =
-    tie.close (tie.spec four-requires same-length returns four-requires-2 same-length-2 returns-2)
+    tie.close (tie.spec four-destinations-requires same-length returns four-destinations-requires-2 same-length-2 returns-2)

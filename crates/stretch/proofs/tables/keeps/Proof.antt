@@ -3,9 +3,9 @@ use mathlib.Core.Path.{_≡_, refl, sym}
 use mathlib.Core.Bool.{true}
 use Prim.Native.Nat.{ℕ, _-_, _≤_}
 use native.Mathlib.Omega.{arith}
-use Rattle.element.specs.Every.{all}
+use Rattle.logic.specs.Every.{all}
 use Rattle.element.proofs.Below.{one-fails}
-use Rattle.stretch.specs.Tables.{keepsAt}
+use Rattle.stretch.specs.Private.{keepsAt}
 use Rattle.stretch.proofs.Turns.{all-more, all-done}
 use Rattle.stretch.proofs.Tabled.{pair-fails, pair-holds}
 use Rattle.stretch.proofs.tables.keeps.Statement.{statement}

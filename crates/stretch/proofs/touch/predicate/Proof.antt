@@ -1,5 +1,5 @@
 -- `predicate` meets its contract: the predicates follow the 32 vectors.
-use Rattle.stretch.specs.Bits.{bitOf}
+use Rattle.stretch.specs.Private.{registerBit}
 use borrow.Author.Needs.{needs}
 use Rattle.stretch.proofs.touch.predicate.Statement.{statement}
 use Rattle.stretch.proofs.touch.predicate.Tie as tie
@@ -11,7 +11,7 @@ bit-requires : tie.Need-bit-requires
 bit-requires c κs = search needs
 
 returns : tie.Need-returns
-unfolding bitOf
+unfolding registerBit
 returns c = c .bit .ensures
 
 pub predicate-spec : {M : Type 1} → statement M

@@ -2,7 +2,7 @@
 use native.Mathlib.Omega.{arith}
 use Rattle.encoding.proofs.InRange.{dup-ranges, known-range}
 use Rattle.stretch.proofs.Known.{known-as}
-use Rattle.stretch.proofs.Rows.{last-bit, next-bit, table-bit, row-is}
+use Rattle.stretch.proofs.TouchBits.{last-bit, next-bit, table-bit, touch-is}
 use borrow.Author.Needs.{needs}
 use Rattle.stretch.proofs.touch.touch_of.Statement.{statement}
 use Rattle.stretch.proofs.touch.touch_of.Tie as tie
@@ -65,8 +65,8 @@ enum-known-instruction-4 c = search needs
 vector-requires : tie.Need-vector-requires
 vector-requires c κs = known-as (c .before .instruction4 .given .1) (c .before .before .before .pre) .0 .0
 
-four-requires : tie.Need-four-requires
-four-requires c κs = known-as (c .before .before .instruction4 .given .1) (c .before .before .before .before .pre) .1 .1 .1 .1 .0
+four-vectors-requires : tie.Need-four-vectors-requires
+four-vectors-requires c κs = known-as (c .before .before .instruction4 .given .1) (c .before .before .before .before .pre) .1 .1 .1 .1 .0
 
 join-requires-4 : tie.Need-join-requires-4
 join-requires-4 c κs = search needs
@@ -77,8 +77,8 @@ enum-known-instruction-5 c = search needs
 vector-requires-2 : tie.Need-vector-requires-2
 vector-requires-2 c κs = known-as (c .before .instruction5 .given .1) (c .before .before .before .pre) .0 .0
 
-four-requires-2 : tie.Need-four-requires-2
-four-requires-2 c κs = known-as (c .before .before .instruction5 .given .1) (c .before .before .before .before .pre) .1 .1 .1 .1 .0
+four-vectors-requires-2 : tie.Need-four-vectors-requires-2
+four-vectors-requires-2 c κs = known-as (c .before .before .instruction5 .given .1) (c .before .before .before .before .pre) .1 .1 .1 .1 .0
 
 join-requires-5 : tie.Need-join-requires-5
 join-requires-5 c κs = search needs
@@ -96,22 +96,22 @@ join-requires-6 : tie.Need-join-requires-6
 join-requires-6 c κs = search needs
 
 returns : tie.Need-returns
-returns c = row-is (c .before .before .before .before .instruction .given .1) (c .join .ensures) (last-bit _ (c .before .before .predicate .ensures)) (last-bit _ (c .before .predicate2 .ensures))
+returns c = touch-is (c .before .before .before .before .instruction .given .1) (c .join .ensures) (last-bit _ (c .before .before .predicate .ensures)) (last-bit _ (c .before .predicate2 .ensures))
 
 returns-2 : tie.Need-returns-2
-returns-2 c = row-is (c .before .before .before .before .before .instruction2 .given .1) (c .join2 .ensures) (last-bit _ (c .before .before .before .predicate3 .ensures)) (next-bit _ _ (c .before .before .predicate4 .ensures) (last-bit _ (c .before .predicate5 .ensures)))
+returns-2 c = touch-is (c .before .before .before .before .before .instruction2 .given .1) (c .join2 .ensures) (last-bit _ (c .before .before .before .predicate3 .ensures)) (next-bit _ _ (c .before .before .predicate4 .ensures) (last-bit _ (c .before .predicate5 .ensures)))
 
 returns-3 : tie.Need-returns-3
-returns-3 c = row-is (c .before .before .before .before .before .before .instruction3 .given .1) (c .join3 .ensures) (next-bit _ _ (c .before .before .before .before .predicate6 .ensures) (next-bit _ _ (c .before .before .before .predicate7 .ensures) (last-bit _ (c .before .before .scalar .ensures)))) (last-bit _ (c .before .predicate8 .ensures))
+returns-3 c = touch-is (c .before .before .before .before .before .before .instruction3 .given .1) (c .join3 .ensures) (next-bit _ _ (c .before .before .before .before .predicate6 .ensures) (next-bit _ _ (c .before .before .before .predicate7 .ensures) (last-bit _ (c .before .before .scalar .ensures)))) (last-bit _ (c .before .predicate8 .ensures))
 
 returns-4 : tie.Need-returns-4
-returns-4 c = row-is (c .before .before .before .before .instruction4 .given .1) (c .join4 .ensures) (next-bit _ _ (c .before .before .vector .ensures) table-bit) (c .before .four .ensures)
+returns-4 c = touch-is (c .before .before .before .before .instruction4 .given .1) (c .join4 .ensures) (next-bit _ _ (c .before .before .vector .ensures) table-bit) (c .before .four-vectors .ensures)
 
 returns-5 : tie.Need-returns-5
-returns-5 c = row-is (c .before .before .before .before .instruction5 .given .1) (c .join5 .ensures) (next-bit _ _ (c .before .before .vector2 .ensures) table-bit) (c .before .four2 .ensures)
+returns-5 c = touch-is (c .before .before .before .before .instruction5 .given .1) (c .join5 .ensures) (next-bit _ _ (c .before .before .vector2 .ensures) table-bit) (c .before .four-vectors2 .ensures)
 
 returns-6 : tie.Need-returns-6
-returns-6 c = row-is (c .before .before .before .before .instruction6 .given .1) (c .join6 .ensures) (last-bit _ (c .before .before .vector3 .ensures)) (last-bit _ (c .before .vector4 .ensures))
+returns-6 c = touch-is (c .before .before .before .before .instruction6 .given .1) (c .join6 .ensures) (last-bit _ (c .before .before .vector3 .ensures)) (last-bit _ (c .before .vector4 .ensures))
 
 pub touch-of-spec : {M : Type 1} → statement M
 touch-of-spec =
@@ -135,11 +135,11 @@ touch-of-spec =
     join-requires-3
     enum-known-instruction-4
     vector-requires
-    four-requires
+    four-vectors-requires
     join-requires-4
     enum-known-instruction-5
     vector-requires-2
-    four-requires-2
+    four-vectors-requires-2
     join-requires-5
     enum-known-instruction-6
     vector-requires-3

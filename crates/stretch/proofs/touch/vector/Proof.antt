@@ -2,7 +2,7 @@
 use mathlib.Core.Path.{ap, _∙_}
 use Prim.Native.Nat.{ℕ, _^_}
 use native.Mathlib.Omega.{arith}
-use Rattle.stretch.specs.Bits.{bitOf}
+use Rattle.stretch.specs.Private.{registerBit}
 use borrow.Author.Needs.{needs}
 use Rattle.stretch.proofs.touch.vector.Statement.{statement}
 use Rattle.stretch.proofs.touch.vector.Tie as tie
@@ -11,7 +11,7 @@ bit-requires : tie.Need-bit-requires
 bit-requires c κs = search needs
 
 returns : tie.Need-returns
-unfolding bitOf
+unfolding registerBit
 returns c = c .bit .ensures ∙ ap (λ (n : ℕ). 2 ^ n) (omega arith)
 
 pub vector-spec : {M : Type 1} → statement M

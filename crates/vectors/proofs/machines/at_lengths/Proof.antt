@@ -5,23 +5,23 @@ use borrow.Author.Needs.{needs}
 use Rattle.vectors.proofs.machines.at_lengths.Statement.{statement}
 use Rattle.vectors.proofs.machines.at_lengths.Tie as tie
 
-array-read-least : tie.Need-array-read-least
-array-read-least c = search needs
+array-read-minimum : tie.Need-array-read-minimum
+array-read-minimum c = search needs
 
-least-requires : tie.Need-least-requires
-least-requires c κs = search needs
+minimum-requires : tie.Need-minimum-requires
+minimum-requires c κs = search needs
 
-array-read-least-2 : tie.Need-array-read-least-2
-array-read-least-2 c = search needs
+array-read-minimum-2 : tie.Need-array-read-minimum-2
+array-read-minimum-2 c = search needs
 
-least-requires-2 : tie.Need-least-requires-2
-least-requires-2 c κs = search needs
+minimum-requires-2 : tie.Need-minimum-requires-2
+minimum-requires-2 c κs = search needs
 
-array-read-least-3 : tie.Need-array-read-least-3
-array-read-least-3 c = search needs
+array-read-minimum-3 : tie.Need-array-read-minimum-3
+array-read-minimum-3 c = search needs
 
-least-requires-3 : tie.Need-least-requires-3
-least-requires-3 c κs = search needs
+minimum-requires-3 : tie.Need-minimum-requires-3
+minimum-requires-3 c κs = search needs
 
 slice-relend-prefix-line : tie.Need-slice-relend-prefix-line
 slice-relend-prefix-line c = search needs
@@ -60,12 +60,12 @@ pub at-lengths-spec : {M : Type 1} → statement M
 at-lengths-spec =
     tie.close
     (tie.spec
-    array-read-least
-    least-requires
-    array-read-least-2
-    least-requires-2
-    array-read-least-3
-    least-requires-3
+    array-read-minimum
+    minimum-requires
+    array-read-minimum-2
+    minimum-requires-2
+    array-read-minimum-3
+    minimum-requires-3
     slice-relend-prefix-line
     slice-aggregate-line
     slice-relend-prefix-line-2
