@@ -1,22 +1,25 @@
--- Sixty-four bits of an expansion are those before the edge, or behind it, under the places of its size; at another's places they are a sample: once over the length, the two sizes and the start.
+-- Sixty-four bits of the expansion are those before the edge, or behind it, at the places of its size; at another's places too they are a sample: once over the length, the two sizes and the start.
 use mathlib.Core.Path.{_≡_, sym, ap, _∙_}
 use mathlib.Core.Bool.{Bool, false, _&&_, and-comm}
-use Prim.Native.Nat.{ℕ, _+_, _-_, _*_, _/_, _%_, _^_, _≤_, _<_}
+use Prim.Native.Nat.{ℕ, _+_, _-_, _*_, _/_, _%_, _^_, _≤_, _<_, max}
 use native.Mathlib.Nat.{div-lt-iff-lt-mul}
 use native.Mathlib.Decide.{decLt}
 use native.Mathlib.Omega.{arith}
-use lib.Bits.{bitAnd}
-use lib.Dec.{eqb, ltb}
+use lib.Bits.{bitAnd, and-zero-l}
+use lib.Dec.{eqb, ltb, eqb→eq}
 use lib.Pow.{pow-pos}
 use borrow.Author.Tests.{lt-ltb, le-ltb, eq-eqb, ne-eqb}
 use Rattle.element.specs.Contents.{gather}
 use Rattle.element.specs.Size.{zeros}
 use Rattle.element.proofs.Units.{unit, low-bits, unit-of}
 use Rattle.element.proofs.Digits.{and-gather}
+use Rattle.element.proofs.Masked.{masked-once}
+use Rattle.element.proofs.Below.{below}
+use Rattle.logic.specs.Every.{all}
 use Rattle.element.proofs.Filling.{gather-same}
 use Rattle.counter.specs.Counter.{countOf, inverts, flipped, elementOf, expansionBit}
-use Rattle.counter.specs.Private.{countAt, expansionAt, maskAt, everyPlace, sampledBit}
-use Rattle.counter.proofs.Lengths.{size-said}
+use Rattle.counter.specs.Private.{maskOf, everyPlace, atPlaces, sampledBit}
+use Rattle.counter.proofs.Lengths.{few-zeros, size-said}
 
 lt-div : (x v n : ℕ) → 0 < v → ltb (x / v) n ≡ ltb x (n * v)
 lt-div x v n h = go (decLt x (n * v))
@@ -36,50 +39,52 @@ lt-beyond m j t = go (decLt (m + j) t)
     go (yes p) = lt-ltb (m + j) t p ∙ sym (lt-ltb j (t - m) (omega arith))
     go (no q) = le-ltb (m + j) t (omega arith) ∙ sym (le-ltb j (t - m) (omega arith))
 
-module _ (vl c z from : ℕ) (whole : from % 8 ≡ 0) where
-  module _ (ne : c % 16 ≡ 0 → ⊥) (small : z < 4) where
-    bit-at : (b : ℕ) → (flipped (inverts c) (ltb b (countAt vl c z * 2 ^ z - from)) && eqb (b % 2 ^ z) 0) ≡ expansionAt vl c z (from + b)
-    unfolding expansionAt
-    bit-at b =
-        and-comm (flipped (inverts c) (ltb b (countAt vl c z * 2 ^ z - from))) (eqb (b % 2 ^ z) 0)
-        ∙ sym (rw (ne-eqb (c % 16) 0 ne, low-bits (2 ^ z) from b (unit z small) whole, lt-div (from + b) (2 ^ z) (countAt vl c z) (pow-pos z), lt-beyond from b (countAt vl c z * 2 ^ z)))
+module _ (vl c from : ℕ) (whole : from % 8 ≡ 0) (ne : c % 16 ≡ 0 → ⊥) where
+  bit-at : (b : ℕ) → (flipped (inverts c) (ltb b (countOf vl c * 2 ^ zeros c - from)) && eqb (b % 2 ^ zeros c) 0) ≡ expansionBit vl c (from + b)
+  unfolding expansionBit elementOf
+  bit-at b =
+      and-comm (flipped (inverts c) (ltb b (countOf vl c * 2 ^ zeros c - from))) (eqb (b % 2 ^ zeros c) 0)
+      ∙ sym (rw (ne-eqb (c % 16) 0 ne, unit-of (size-said c ne), low-bits (2 ^ zeros c) from b (unit (zeros c) (few-zeros c ne)) whole, lt-div (from + b) (2 ^ zeros c) (countOf vl c) (pow-pos (zeros c)), lt-beyond from b (countOf vl c * 2 ^ zeros c)))
 
-    -- x: the bits before the edge, or behind it; y: the places
-    pub mask-is : (inv : Bool) (d x y : ℕ)
-        → inverts c ≡ inv
-        → d ≡ countAt vl c z * 2 ^ z - from
-        → x ≡ gather (λ b. flipped inv (ltb b d)) 0 64
-        → y ≡ everyPlace z
-        → bitAnd x y ≡ maskAt vl c z from
-    unfolding maskAt
-    mask-is inv d x y ei ed ex ey =
-        rw (ex, ey, ed, ← ei)
-        (and-gather (λ b. flipped (inverts c) (ltb b (countAt vl c z * 2 ^ z - from))) (λ b. eqb (b % 2 ^ z) 0) 64 0
-        ∙ gather-same (λ b. flipped (inverts c) (ltb b (countAt vl c z * 2 ^ z - from)) && eqb (b % 2 ^ z) 0) (λ b. expansionAt vl c z (from + b)) 64 0 0 (λ j h. bit-at (0 + j)))
+  -- x: the bits before the edge, or behind it
+  pub mask-is : (inv : Bool) (z d x : ℕ)
+      → inverts c ≡ inv
+      → z ≡ zeros c
+      → d ≡ countOf vl c * 2 ^ zeros c - from
+      → x ≡ gather (λ b. flipped inv (ltb b d)) 0 64
+      → atPlaces x z ≡ maskOf vl c from
+  unfolding maskOf
+  mask-is inv z d x ei ez ed ex =
+      rw (ex, ed, ez, ← ei)
+      (and-gather (λ b. flipped (inverts c) (ltb b (countOf vl c * 2 ^ zeros c - from))) (λ b. eqb (b % 2 ^ zeros c) 0) 64 0
+      ∙ gather-same (λ b. flipped (inverts c) (ltb b (countOf vl c * 2 ^ zeros c - from)) && eqb (b % 2 ^ zeros c) 0) (λ b. expansionBit vl c (from + b)) 64 0 0 (λ j h. bit-at (0 + j)))
 
 -- a counter that says no size has no true bit
-pub no-mask : (vl c z from : ℕ) → c % 16 ≡ 0 → 0 ≡ maskAt vl c z from
-unfolding gather maskAt expansionAt
-no-mask vl c z from e =
-    gather-same (λ (b : ℕ). false) (λ b. expansionAt vl c z (from + b)) 64 0 0 (λ j l. sym (rw (eq-eqb (c % 16) 0 e)))
+pub no-mask : (vl c from : ℕ) → c % 16 ≡ 0 → atPlaces 0 0 ≡ maskOf vl c from
+unfolding gather maskOf expansionBit
+no-mask vl c from e =
+    and-zero-l (everyPlace 0)
+    ∙ gather-same (λ (b : ℕ). false) (λ b. expansionBit vl c (from + b)) 64 0 0 (λ j l. sym (rw (eq-eqb (c % 16) 0 e)))
 
-module _ (vl c z s from : ℕ) where
-  pub sample-is : bitAnd (maskAt vl c z from) (everyPlace s) ≡ gather (sampledBit vl c z s from) 0 64
-  unfolding maskAt sampledBit
-  sample-is = and-gather (λ b. expansionAt vl c z (from + b)) (λ b. eqb (b % 2 ^ s) 0) 64 0
+-- of two sizes the larger's places are those of both: a test over the sizes
+nested : ℕ → ℕ → Bool
+unfolding gather
+nested z s = eqb (bitAnd (everyPlace z) (everyPlace s)) (everyPlace (max z s))
+
+pub both-sizes : (x z s : ℕ) → z < 4 → s < 4 → atPlaces x (max z s) ≡ atPlaces (atPlaces x z) s
+unfolding nested gather
+both-sizes x z s hz hs =
+    let e = eqb→eq (bitAnd (everyPlace z) (everyPlace s)) (everyPlace (max z s)) (below (nested z) 4 (below (λ (y : ℕ). all (nested y) 4) 4 tt z hz) s hs) in
+    ap (bitAnd x) (sym e) ∙ masked-once x (everyPlace z) (everyPlace s)
+
+module _ (vl c s from : ℕ) where
+  pub sample-is : atPlaces (maskOf vl c from) s ≡ gather (sampledBit vl c s from) 0 64
+  unfolding maskOf sampledBit
+  sample-is = and-gather (λ b. expansionBit vl c (from + b)) (λ b. eqb (b % 2 ^ s) 0) 64 0
 
   -- a sample that starts a bytes on is the sample from there
-  pub moved : s < 4 → (a : ℕ) → gather (sampledBit vl c z s (from + 8 * a)) 0 64 ≡ gather (sampledBit vl c z s from) (8 * a) 64
+  pub moved : s < 4 → (a : ℕ) → gather (sampledBit vl c s (from + 8 * a)) 0 64 ≡ gather (sampledBit vl c s from) (8 * a) 64
   unfolding sampledBit
   moved small a =
-      gather-same (sampledBit vl c z s (from + 8 * a)) (sampledBit vl c z s from) 64 0 (8 * a)
+      gather-same (sampledBit vl c s (from + 8 * a)) (sampledBit vl c s from) 64 0 (8 * a)
       (λ j h. let o : 0 + j ≡ j = omega arith in let e : from + 8 * a + j ≡ from + (8 * a + j) = omega arith in rw (o, e, low-bits (2 ^ s) (8 * a) j (unit s small) (omega arith)))
-
--- at the counter's own size it is the expansion
-pub own-size : (vl c b : ℕ) → expansionAt vl c (zeros c) b ≡ expansionBit vl c b
-unfolding expansionAt expansionBit elementOf countAt countOf
-own-size vl c b = go (decLt 0 (c % 16))
-  where
-    go : Dec (0 < c % 16) → expansionAt vl c (zeros c) b ≡ expansionBit vl c b
-    go (yes h) = rw (unit-of (size-said c (λ e. omega (arith, h, e))))
-    go (no h) = let e : c % 16 ≡ 0 = omega arith in rw (eq-eqb (c % 16) 0 e)

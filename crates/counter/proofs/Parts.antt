@@ -1,4 +1,4 @@
--- A portion is a sample of the expansion at the counter's own size, bit by bit; and what the tests before an extraction say.
+-- A portion is a sample of the expansion, bit by bit; and what the tests before an extraction say.
 use mathlib.Core.Path.{_≡_, refl, sym, ap, _∙_}
 use mathlib.Core.Bool.{Bool, true, false, _&&_, and-comm}
 use mathlib.Core.Logic.{inl, inr}
@@ -9,7 +9,7 @@ use lib.Dec.{eqb, ltb}
 use borrow.Author.Tests.{eqb-true, ltb-true}
 use Rattle.setting.specs.Allowed.{lengthAllowed}
 use Rattle.setting.proofs.Lengths.{length-cases}
-use Rattle.element.specs.Size.{isSize, zeros}
+use Rattle.element.specs.Size.{isSize}
 use Rattle.element.specs.Contents.{packed}
 use Rattle.element.specs.Units.{sizeAt}
 use Rattle.element.specs.Private.{Log}
@@ -21,7 +21,6 @@ use Rattle.counter.specs.Counter.{expansionBit}
 use Rattle.counter.specs.Portion.{portionBit, portionOf, extractable}
 use Rattle.counter.specs.Private.{sampledBit, Length, Filled}
 use Rattle.counter.proofs.Lengths.{length-is}
-use Rattle.counter.proofs.Masks.{own-size}
 
 -- where an element's place is asked only at a place, it may be written anew
 under : (a : Bool) (f : ℕ → Bool) (x y : ℕ) → (a ≡ true → x ≡ y) → (a && f x) ≡ (a && f y)
@@ -35,13 +34,12 @@ module _ (vl size p c s : ℕ) (even : vl % 128 ≡ 0) (l : Log size s) where
       let u = unit s (l .small) in
       rw (elements vl l, add-mul, mul-assoc, whole (2 ^ s) (vl / 8) u (omega arith), back (2 ^ s) b u h)
 
-  pub portion-sample : packed (sampledBit vl c (zeros c) s (p * (vl / 8))) (vl / 64) ≡ portionOf vl size p c
+  pub portion-sample : packed (sampledBit vl c s (p * (vl / 8))) (vl / 64) ≡ portionOf vl size p c
   unfolding portionOf portionBit sampledBit
   portion-sample =
-      packed-same (sampledBit vl c (zeros c) s (p * (vl / 8))) (portionBit vl size p c) (vl / 64)
+      packed-same (sampledBit vl c s (p * (vl / 8))) (portionBit vl size p c) (vl / 64)
       (λ b.
-      ap (λ (x : Bool). x && eqb (b % 2 ^ s) 0) (own-size vl c (p * (vl / 8) + b))
-      ∙ and-comm (expansionBit vl c (p * (vl / 8) + b)) (eqb (b % 2 ^ s) 0)
+      and-comm (expansionBit vl c (p * (vl / 8) + b)) (eqb (b % 2 ^ s) 0)
       ∙ rw (unit-of l) (sym (under (eqb (b % 2 ^ s) 0) (expansionBit vl c) ((p * (vl / size) + b / 2 ^ s) * 2 ^ s) (p * (vl / 8) + b) (λ e. place b (eqb-true (b % 2 ^ s) 0 e)))))
 
 -- a register's bytes are two, four or eights

@@ -1,7 +1,7 @@
--- `extract` meets its contract: a portion is the sample that starts at p·VL/8, of the expansion at the counter's own size.
+-- `extract` meets its contract: a portion is the sample that starts at p·VL/8.
 use mathlib.Core.Path.{_≡_, sym, ap, _∙_}
 use mathlib.Core.Bool.{Bool, true}
-use Prim.Native.Nat.{ℕ, _*_, _/_}
+use Prim.Native.Nat.{_*_, _/_}
 use native.Mathlib.Omega.{arith}
 use borrow.Author.Needs.{needs}
 use lib.ListN.{length}
@@ -12,7 +12,6 @@ use Rattle.element.proofs.Tests.{said-no, said-yes}
 use Rattle.element.proofs.Units.{at-log}
 use Rattle.counter.specs.Portion.{portionOf, extractable}
 use Rattle.counter.specs.Private.{sampledBit}
-use Rattle.counter.proofs.Lengths.{few-zeros}
 use Rattle.counter.proofs.Parts.{Extractable, extractable-is, portion-sample}
 use Rattle.counter.proofs.extract.Statement.{statement}
 use Rattle.counter.proofs.extract.Tie as tie
@@ -32,26 +31,12 @@ can c = said-yes (c .before .can-extract .ensures) (c .if1 .left)
 ready : (c : tie.Else1) → Extractable (c .before .before .before .args .vl) (c .before .before .before .args .log) (c .before .before .before .args .portion) (length (c .before .before .before .args .o .now))
 ready c = let a = c .before .before .before .args in extractable-is (a .vl) (a .log) (a .portion) (length (a .o .now)) (can c)
 
-cast-log-of-field : tie.Need-cast-log-of-field
-cast-log-of-field c = search needs
-
-log-of-field-requires : tie.Need-log-of-field-requires
-log-of-field-requires c κs = search needs
-
 mul-sample : tie.Need-mul-sample
-mul-sample c = omega (arith, ready (c .before .before) .fits)
+mul-sample c = omega (arith, ready c .fits)
 
--- the counter's own size and the instruction's are below 4, so either would be expanded: only the portion's promise tells them apart
 sample-requires : tie.Need-sample-requires
 sample-requires c κs =
-    let r = ready (c .before .before .before) in
-    let own = c .before .log-of-field .ensures in (
-      record {
-        mask = record { length = r .length; some = λ ne. omega (arith, own, few-zeros (c .before .before .before .before .before .before .args .c .0) ne, r .small); whole = r .start };
-        small = r .small;
-      },
-      r .filled,
-    )
+    let r = ready (c .before) in (record { length = r .length; whole = r .start; small = r .small }, r .filled)
 
 same-length : tie.Need-same-length
 same-length c = search needs
@@ -59,15 +44,13 @@ same-length c = search needs
 returns-2 : tie.Need-returns-2
 returns-2 c =
     let v = c .before .before in
-    let g = v .before .before in
-    let e = g .before .before in
+    let e = v .before .before in
     let a = e .before .before .before .args in
     let r = ready e in
     let can-do = can e in (
       sym can-do,
       v .sample .ensures
-          ∙ ap (packed (sampledBit (a .vl) (a .c .0) (g .log-of-field .result) (a .log) (a .portion * (a .vl / 8)))) (r .whole)
-          ∙ ap (λ (z : ℕ). packed (sampledBit (a .vl) (a .c .0) z (a .log) (a .portion * (a .vl / 8))) (a .vl / 64)) (g .log-of-field .ensures)
+          ∙ ap (packed (sampledBit (a .vl) (a .c .0) (a .log) (a .portion * (a .vl / 8)))) (r .whole)
           ∙ portion-sample (a .vl) (sizeAt (a .log)) (a .portion) (a .c .0) (a .log) (r .length .even) (at-log (a .log) (r .small))
           ∙ ap (λ (b : Bool). pick b (portionOf (a .vl) (sizeAt (a .log)) (a .portion) (a .c .0)) (a .o .now)) (sym can-do),
     )
@@ -78,8 +61,6 @@ extract-spec =
     (tie.spec
     can-extract-requires
     returns
-    cast-log-of-field
-    log-of-field-requires
     mul-sample
     sample-requires
     same-length
