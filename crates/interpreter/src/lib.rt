@@ -1,6 +1,5 @@
 // One step of the machine, and a run of them, on lent files: a word read, its access tested, its operation done, and PC advanced.
-mod access;
-mod words;
+mod forms;
 
 ghost use mathlib.Core.Path.{_≡_};
 ghost use mathlib.Core.List.{[], _∷_};
@@ -95,9 +94,9 @@ fn step_in_run(
 {
     let place = decoder::place(setting.features, word);
     match place {
-        0 => words::pext1(p, setting, scalars.v, scalars.s, word),
-        1 => words::pext2(p, setting, scalars.v, scalars.s, word),
-        2 => words::dup(
+        0 => forms::pext1(p, setting, scalars.v, scalars.s, word),
+        1 => forms::pext2(p, setting, scalars.v, scalars.s, word),
+        2 => forms::dup(
             p,
             setting,
             scalars.w12,
@@ -107,9 +106,9 @@ fn step_in_run(
             scalars.v,
             word,
         ),
-        3 => words::luti4c(z, zt, setting, scalars.s, scalars.t, word),
-        4 => words::luti4s(z, zt, setting, scalars.s, scalars.t, word),
-        5 => words::uqrshrnb(z, setting, scalars.v, word),
+        3 => forms::luti4c(z, zt, setting, scalars.s, scalars.t, word),
+        4 => forms::luti4s(z, zt, setting, scalars.s, scalars.t, word),
+        5 => forms::uqrshrnb(z, setting, scalars.v, word),
         _ => Answer::Undefined,
     }
 }

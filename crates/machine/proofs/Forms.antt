@@ -22,10 +22,10 @@ use Rattle.dup.specs.Dup.{dupLeaves}
 use Rattle.lookup.specs.Calls.{luti4File}
 use Rattle.narrow.specs.Calls.{narrowFile}
 use Rattle.machine.specs.Machine.{Machine, machine, flagsOf}
-use Rattle.machine.specs.Needs.{need, firstFailed}
+use Rattle.machine.specs.Needs.{need, firstFailed, ifDone}
 use Rattle.machine.specs.Effects.{effectOf}
 use Rattle.machine.specs.Step.{Step, stepOf, stepAs}
-use Rattle.machine.specs.Private.{Ready, Known, PredicateWord, VectorWord, TablelessWord, HasV, HasVS, HasST, HasWV, ifDone, doneOf, executedOf, movedBy}
+use Rattle.machine.specs.Private.{Ready, Known, PredicateWord, VectorWord, TablelessWord, HasV, HasVS, HasST, HasWV, doneOf, executedOf, movedBy}
 use Rattle.machine.specs.declared.Scalars.{Scalars}
 use Rattle.machine.proofs.Steps.{refused-for, done-for, step-executes, step-ready, step-undefined}
 use Rattle.machine.proofs.Operations.{pext1-done, pext2-done, dup-done, luti4c-done, luti4s-done, uqrshrnb-done}

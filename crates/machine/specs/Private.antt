@@ -84,8 +84,3 @@ HasST s t c = (c .s ≡ s) × (c .t ≡ t)
 
 abbrev pub HasWV : ℕ → ℕ → ℕ → ℕ → Bool → Scalars → Type 0
 HasWV w12 w13 w14 w15 v c = (c .w12 ≡ w12) × (c .w13 ≡ w13) × (c .w14 ≡ w14) × (c .w15 ≡ w15) × (c .v ≡ v)
-
--- what is left of a file by a word of that answer
-abbrev pub ifDone : ℕ → List ℕ → List ℕ → List ℕ
-ifDone zero done before = done
-ifDone (suc k) done before = before

@@ -1,0 +1,138 @@
+// One word of each form, where the place of its row is known: its fields are read, and its operation is done under its access on the
+// file that it is lent. PC is left to the caller.
+ghost use mathlib.Core.Path.{_≡_};
+ghost use mathlib.Core.List.{[], _∷_};
+ghost use Prim.Native.Nat.{_-_, _≤_, _<_};
+ghost use lib.ListN.{getD};
+ghost use Rattle.machine.specs.Private.{PredicateWord, VectorWord, TablelessWord, HasV, HasVS, HasST, HasWV};
+use decoder::fields;
+use setting::Answer;
+use setting::Setting;
+
+// ---- the predicates
+pub(crate) fn pext1(p: &mut [u8], setting: Setting, v: bool, s: bool, word: u32) -> Answer
+    ensures { λ r. ⌜ PredicateWord 0 setting word (HasVS v s) r (now (p .entry)) (now (p .exit)) ⌝ }
+{
+    let o = fields::pext1(word);
+    words::pext(
+        p,
+        setting,
+        v,
+        s,
+        o.log,
+        o.immediate,
+        1,
+        o.source,
+        o.destination,
+    )
+}
+
+pub(crate) fn pext2(p: &mut [u8], setting: Setting, v: bool, s: bool, word: u32) -> Answer
+    ensures { λ r. ⌜ PredicateWord 1 setting word (HasVS v s) r (now (p .entry)) (now (p .exit)) ⌝ }
+{
+    let o = fields::pext2(word);
+    words::pext(
+        p,
+        setting,
+        v,
+        s,
+        o.log,
+        2 * o.immediate,
+        2,
+        o.source,
+        o.destination,
+    )
+}
+
+// W12 to W15, chosen without a jump.
+fn index_register(w12: u32, w13: u32, w14: u32, w15: u32, number: u32) -> u32
+    requires { ⌜ (12 ≤ number) × (number < 16) ⌝ }
+    ensures { λ r. ⌜ r ≡ getD (w12 ∷ w13 ∷ w14 ∷ w15 ∷ []) (number - 12) 0 ⌝ }
+{
+    let low = if number == 13 { w13 } else { w12 };
+    let high = if number == 15 { w15 } else { w14 };
+    if number < 14 { low } else { high }
+}
+
+pub(crate) fn dup(
+    p: &mut [u8],
+    setting: Setting,
+    w12: u32,
+    w13: u32,
+    w14: u32,
+    w15: u32,
+    v: bool,
+    word: u32,
+) -> Answer
+    ensures { λ r. ⌜ PredicateWord 2 setting word (HasWV w12 w13 w14 w15 v) r (now (p .entry)) (now (p .exit)) ⌝ }
+{
+    let o = fields::dup(word);
+    let w = index_register(w12, w13, w14, w15, o.index);
+    words::dup(p, setting.vl, v, w, o.log, o.offset, o.pg, o.pn, o.pd)
+}
+
+// ---- the vectors
+pub(crate) fn luti4c(
+    z: &mut [u8],
+    zt: &[u8],
+    setting: Setting,
+    s: bool,
+    t: bool,
+    word: u32,
+) -> Answer
+    ensures { λ r. ⌜ VectorWord 3 setting word (HasST s t) r (now (zt .entry)) (now (z .entry)) (now (z .exit)) ⌝ }
+{
+    let o = fields::luti4c(word);
+    words::luti4(
+        z,
+        zt,
+        setting.vl,
+        s,
+        t,
+        o.size,
+        o.immediate,
+        o.source,
+        o.destination,
+        1,
+    )
+}
+
+pub(crate) fn luti4s(
+    z: &mut [u8],
+    zt: &[u8],
+    setting: Setting,
+    s: bool,
+    t: bool,
+    word: u32,
+) -> Answer
+    ensures { λ r. ⌜ VectorWord 4 setting word (HasST s t) r (now (zt .entry)) (now (z .entry)) (now (z .exit)) ⌝ }
+{
+    let o = fields::luti4s(word);
+    words::luti4(
+        z,
+        zt,
+        setting.vl,
+        s,
+        t,
+        o.size,
+        o.immediate,
+        o.source,
+        o.destination,
+        4,
+    )
+}
+
+pub(crate) fn uqrshrnb(z: &mut [u8], setting: Setting, v: bool, word: u32) -> Answer
+    ensures { λ r. ⌜ TablelessWord 5 setting word (HasV v) r (now (z .entry)) (now (z .exit)) ⌝ }
+{
+    let o = fields::uqrshrnb(word);
+    words::uqrshrnb(
+        z,
+        setting.vl,
+        v,
+        o.size,
+        o.immediate,
+        o.source,
+        o.destination,
+    )
+}
