@@ -1,25 +1,20 @@
 // The C interface: numbers, slices (a pointer, then a length) and the scalar record cross it. include/gighull.h declares it for C.
 // A function answers document 01's number, and leaves its values in what is lent to it.
-mod replies;
-
 ghost use mathlib.Core.Path.{_≡_};
-ghost use Rattle.setting.specs.Numbers.{numberOf};
 ghost use Rattle.machine.specs.Machine.{machine, scalarsOf};
 ghost use Rattle.machine.specs.Step.{stepOf, stepAs};
 ghost use Rattle.machine.specs.Run.{runOf, runAs};
 ghost use Rattle.encoding.specs.Decode.{decodeOf};
-ghost use Rattle.encoding.specs.Encode.{encodedAs};
 ghost use Rattle.stretch.specs.Conflict.{conflictOf};
 ghost use Rattle.stretch.specs.Permission.{permittedOf};
 ghost use Rattle.listing.specs.Buffer.{Wrote, listedOf, outOf};
 ghost use Rattle.console.specs.Parts.{vectorOf, predicateOf};
-ghost use Rattle.gighull.specs.Numbers.{settingOf, numberIn, yesIn};
-ghost use Rattle.gighull.specs.Fields.{readInto, refusedOf, writeOf, writtenAs};
-ghost use Rattle.gighull.specs.Buffers.{fitting, listedAs};
-use encoding::Decoded;
-use encoding::Encoded;
+ghost use Rattle.exported.specs.Numbers.{numberIn, yesIn};
+ghost use Rattle.exported.specs.Fields.{readInto, writeOf};
+ghost use Rattle.exported.specs.Buffers.{fitting};
+ghost use Rattle.gighull.specs.Calls.{settingOf, writtenAs, listedAs};
+use exported::replies;
 use machine::Scalars;
-use setting::Answer;
 use setting::Setting;
 
 // One word on the lent machine. The record is advanced where it stands.
@@ -116,37 +111,7 @@ pub extern "C" fn gighull_permitted(
 pub extern "C" fn gighull_decode(vl: u32, features: u32, word: u32, fields: &mut [u32]) -> u32
     ensures { λ r. ⌜ (r ≡ numberIn (decodeOf (settingOf vl features) word)) × (now (fields .exit) ≡ readInto (decodeOf (settingOf vl features) word) (now (fields .entry))) ⌝ }
 {
-    let decoded = decoder::decode(Setting { vl, features }, word);
-    match decoded {
-        Decoded::Fields(instruction) => {
-            numbers::put(instruction, fields);
-            0
-        }
-        Decoded::Refused(answer) => setting::number(answer),
-    }
-}
-
-// A refused writing, for a setting that is not allowed before anything else.
-fn unwritten(setting: Setting, answer: Answer) -> Encoded
-    ensures { λ r. ⌜ encodedAs r ≡ refusedOf setting (numberOf answer) ⌝ }
-{
-    if !setting::allowed(setting) {
-        return Encoded {
-            answer: Answer::NotAllowed,
-            word: 0,
-        };
-    }
-    Encoded { answer, word: 0 }
-}
-
-fn written(setting: Setting, fields: &[u32]) -> Encoded
-    ensures { λ r. ⌜ encodedAs r ≡ writeOf setting (now (fields .entry)) ⌝ }
-{
-    let read = numbers::instruction(fields);
-    match read {
-        Decoded::Fields(instruction) => encoder::encode(setting, instruction),
-        Decoded::Refused(answer) => unwritten(setting, answer),
-    }
+    exported::read(decoder::decode(Setting { vl, features }, word), fields)
 }
 
 // The word that seven numbers are written as.
@@ -154,20 +119,10 @@ fn written(setting: Setting, fields: &[u32]) -> Encoded
 pub extern "C" fn gighull_encode(vl: u32, features: u32, fields: &[u32], word: &mut u32) -> u32
     ensures { λ r. ⌜ writtenAs r (now (word .exit)) ≡ writeOf (settingOf vl features) (now (fields .entry)) ⌝ }
 {
-    let encoded = written(Setting { vl, features }, fields);
+    let encoded = exported::written(Setting { vl, features }, fields);
     let answer = encoded.answer;
     *word = encoded.word;
     setting::number(answer)
-}
-
-// A part into a buffer that has room for it.
-fn copied(part: &[u8], out: &mut [u8]) -> usize
-    ensures { λ r. ⌜ Wrote (fitting (now (part .entry)) (now (out .entry))) (now (out .entry)) (now (out .exit)) r ⌝ }
-{
-    if out.len() < part.len() {
-        return 0;
-    }
-    bytes::copy(part, out)
 }
 
 // The bytes of a Z register, and how many they are.
@@ -175,7 +130,7 @@ fn copied(part: &[u8], out: &mut [u8]) -> usize
 pub extern "C" fn gighull_vector(file: &[u8], vl: u32, register: u32, out: &mut [u8]) -> usize
     ensures { λ r. ⌜ Wrote (fitting (vectorOf (now (file .entry)) vl register) (now (out .entry))) (now (out .entry)) (now (out .exit)) r ⌝ }
 {
-    copied(console::vector(file, vl, register), out)
+    exported::copied(console::vector(file, vl, register), out)
 }
 
 // The bytes of a P register, and how many they are.
@@ -183,7 +138,7 @@ pub extern "C" fn gighull_vector(file: &[u8], vl: u32, register: u32, out: &mut 
 pub extern "C" fn gighull_predicate(file: &[u8], vl: u32, register: u32, out: &mut [u8]) -> usize
     ensures { λ r. ⌜ Wrote (fitting (predicateOf (now (file .entry)) vl register) (now (out .entry))) (now (out .entry)) (now (out .exit)) r ⌝ }
 {
-    copied(console::predicate(file, vl, register), out)
+    exported::copied(console::predicate(file, vl, register), out)
 }
 
 // The lines of as much input as surely fits: how much was read, and how much text that gave.

@@ -1,7 +1,7 @@
 -- `gighull_encode` meets its contract: the number is that of the answer, beside the word.
 use mathlib.Core.Path.{ap, _∙_}
 use Prim.Native.Nat.{ℕ}
-use Rattle.gighull.specs.Fields.{writtenAs}
+use Rattle.gighull.specs.Calls.{writtenAs}
 use borrow.Author.Needs.{needs}
 use Rattle.gighull.proofs.gighull_encode.Statement.{statement}
 use Rattle.gighull.proofs.gighull_encode.Tie as tie

@@ -44,7 +44,7 @@ use Rattle.setting.specs.declared.Setting.{Setting}
 use Rattle.machine.specs.Machine.{machine}
 use Rattle.machine.specs.Step.{stepOf, stepAs}
 use Rattle.machine.specs.declared.Scalars.{Scalars}
-use Rattle.gighull.specs.Numbers.{settingOf}
+use Rattle.gighull.specs.Calls.{settingOf}
 use Rattle.setting.proofs.Answer as N
 use Rattle.setting.proofs.Answer.Laws as N′
 use Rattle.setting.proofs.Setting as S

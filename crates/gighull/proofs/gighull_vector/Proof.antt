@@ -1,5 +1,5 @@
 -- `gighull_vector` meets its contract: what is copied is the part that the console is given.
-use Rattle.gighull.proofs.Cases.{same-part}
+use Rattle.exported.proofs.Cases.{same-part}
 use borrow.Author.Needs.{needs}
 use Rattle.gighull.proofs.gighull_vector.Statement.{statement}
 use Rattle.gighull.proofs.gighull_vector.Tie as tie

@@ -1,11 +1,7 @@
--- Document 01, "Setting" and "Numbers the bench answers with": the two loose numbers of a C call as a setting, and an outcome's number.
+-- Document 01, "Numbers the bench answers with": an outcome as its number, and a yes as 1.
 use mathlib.Core.Bool.{Bool, true, false}
 use Prim.Native.Nat.{ℕ}
 use Rattle.setting.specs.Numbers.{Outcome, accept, refuse}
-use Rattle.setting.specs.declared.Setting.{Setting}
-
-abbrev pub settingOf : ℕ → ℕ → Setting
-settingOf vl features = record { vl = vl; features = features }
 
 -- 0 for what is accepted
 abbrev pub numberIn : {A : Type 0} → Outcome A → ℕ

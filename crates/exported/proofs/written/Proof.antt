@@ -1,10 +1,10 @@
 -- `written` meets its contract: the seven numbers name an instruction, or are out of range.
 use mathlib.Core.Path.{ap, _∙_}
-use Rattle.gighull.specs.Fields.{writeAs}
-use Rattle.gighull.proofs.Cases.{read-fields, read-refused}
+use Rattle.exported.specs.Fields.{writeAs}
+use Rattle.exported.proofs.Cases.{read-fields, read-refused}
 use borrow.Author.Needs.{needs}
-use Rattle.gighull.proofs.written.Statement.{statement}
-use Rattle.gighull.proofs.written.Tie as tie
+use Rattle.exported.proofs.written.Statement.{statement}
+use Rattle.exported.proofs.written.Tie as tie
 
 instruction-requires : tie.Need-instruction-requires
 instruction-requires c κs = search needs

@@ -1,4 +1,4 @@
--- What a C call leaves in a list of seven numbers, and the word that it writes from one.
+-- What a reading leaves in a list of seven numbers, and the word that is written from one.
 use mathlib.Core.List.{List}
 use Prim.Native.Nat.{ℕ}
 use Rattle.setting.specs.Allowed.{allowedOf}
@@ -24,6 +24,3 @@ writeAs s (refuse n) = refusedOf s n
 
 abbrev pub writeOf : Setting → List ℕ → Written
 writeOf s xs = writeAs s (instructionOf xs)
-
-abbrev pub writtenAs : ℕ → ℕ → Written
-writtenAs n w = record { number = n; word = w }

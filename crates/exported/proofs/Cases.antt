@@ -1,4 +1,4 @@
--- What the definitions of the C calls are in each case: the test or the outcome that the code has is put into them.
+-- What the definitions of the exported numbers are in each case: the test or the outcome that the code has is put into them.
 use mathlib.Core.Path.{_≡_, refl, sym, ap, subst, _∙_}
 use mathlib.Core.Bool.{true, false}
 use mathlib.Core.List.{List, _++_}
@@ -16,8 +16,8 @@ use Rattle.encoding.specs.declared.Decoded.{Decoded}
 use Rattle.encoding.specs.declared.Decoded.the-variants.{Fields, Refused}
 use Rattle.encoding.specs.declared.Instruction.{Instruction}
 use Rattle.listing.specs.Buffer.{Wrote}
-use Rattle.gighull.specs.Fields.{refusedOf}
-use Rattle.gighull.specs.Buffers.{fitting}
+use Rattle.exported.specs.Fields.{refusedOf}
+use Rattle.exported.specs.Buffers.{fitting}
 
 -- ---- a part into a buffer
 module _ (part out : List ℕ) where
@@ -27,7 +27,7 @@ module _ (part out : List ℕ) where
   pub roomy : (o : List ℕ) (r : ℕ) → length part ≤ length out → r ≡ length part → o ≡ take (length part) part ++ drop (length part) out → Wrote (fitting part out) out o r
   roomy o r h e f = rw (le-ltb (length out) (length part) h) (record { count = e; whole = f ∙ rw take-length })
 
--- the part that a console is given
+-- of a part that is given in another form
 pub same-part : (part given out o : List ℕ) (r : ℕ) → part ≡ given → Wrote (fitting part out) out o r → Wrote (fitting given out) out o r
 same-part part given out o r e = subst (λ (x : List ℕ). Wrote (fitting x out) out o r) e
 

@@ -1,10 +1,10 @@
 // A reply as two numbers: document 01's, and 1 for yes.
 ghost use mathlib.Core.Path.{_≡_};
 ghost use Rattle.stretch.specs.Conflict.{replyAs};
-ghost use Rattle.gighull.specs.Numbers.{numberIn, yesIn};
+ghost use Rattle.exported.specs.Numbers.{numberIn, yesIn};
 use stretch::Reply;
 
-pub(crate) fn number(reply: Reply) -> u32
+pub fn number(reply: Reply) -> u32
     ensures { λ r. ⌜ r ≡ numberIn (replyAs reply) ⌝ }
 {
     match reply {
@@ -14,7 +14,7 @@ pub(crate) fn number(reply: Reply) -> u32
     }
 }
 
-pub(crate) fn yes(reply: Reply) -> u32
+pub fn yes(reply: Reply) -> u32
     ensures { λ r. ⌜ r ≡ yesIn (replyAs reply) ⌝ }
 {
     match reply {

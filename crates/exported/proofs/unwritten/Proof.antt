@@ -1,9 +1,9 @@
 -- `unwritten` meets its contract: by the test of the setting.
 use Rattle.element.proofs.Tests.{said-no, said-yes}
-use Rattle.gighull.proofs.Cases.{bad-setting, good-setting}
+use Rattle.exported.proofs.Cases.{bad-setting, good-setting}
 use borrow.Author.Needs.{needs}
-use Rattle.gighull.proofs.unwritten.Statement.{statement}
-use Rattle.gighull.proofs.unwritten.Tie as tie
+use Rattle.exported.proofs.unwritten.Statement.{statement}
+use Rattle.exported.proofs.unwritten.Tie as tie
 
 allowed-requires : tie.Need-allowed-requires
 allowed-requires c κs = search needs

@@ -1,8 +1,8 @@
 -- `copied` meets its contract: nothing of a part that is too long, else all of it.
-use Rattle.gighull.proofs.Cases.{too-short, roomy}
+use Rattle.exported.proofs.Cases.{too-short, roomy}
 use borrow.Author.Needs.{needs}
-use Rattle.gighull.proofs.copied.Statement.{statement}
-use Rattle.gighull.proofs.copied.Tie as tie
+use Rattle.exported.proofs.copied.Statement.{statement}
+use Rattle.exported.proofs.copied.Tie as tie
 
 returns : tie.Need-returns
 returns c = too-short (c .before .before .before .args .part .now) (c .before .before .before .args .out .now) (c .if1 .taken)
