@@ -10,7 +10,7 @@ use Rattle.encoding.specs.Places.{placeIn}
 use Rattle.encoding.specs.Decode.{decodeOf}
 use Rattle.encoding.specs.declared.Instruction.{Instruction}
 use Rattle.encoding.proofs.Round.{column-at-place, place-lt}
-use Rattle.listing.specs.Name.{allOn, undefined, nameIn, nameOf}
+use Rattle.text.specs.Name.{allOn, undefined, nameIn, nameOf}
 use Rattle.listing.specs.Private.{nameAt}
 
 name-in : (o : Outcome Instruction) → nameAt (placeIn o) ≡ nameIn o

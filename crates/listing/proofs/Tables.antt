@@ -8,8 +8,8 @@ use lib.Dec.{T, eqb, ltb, eqb→eq, ltb→lt}
 use lib.ListN.{length, getD, take, drop}
 use Rattle.logic.specs.Every.{all}
 use Rattle.element.proofs.Below.{both, below}
-use Rattle.listing.specs.Text.{glyphOf}
-use Rattle.listing.specs.Lines.{nameLine}
+use Rattle.text.specs.Text.{glyphOf}
+use Rattle.text.specs.Lines.{nameLine}
 use Rattle.listing.specs.Buffer.{Wrote}
 use Rattle.listing.specs.Private.{Begins, nameAt, Pairs, Tails}
 use Rattle.encoding.specs.Rows.{rows}

@@ -4,7 +4,7 @@ use mathlib.Core.Path.{_≡_}
 use mathlib.Core.List.{List, _++_}
 use lib.ListN.{length, take, drop}
 use Rattle.listing.specs.declared.Listed.{Listed}
-use Rattle.listing.specs.Lines.{linesOf}
+use Rattle.text.specs.Lines.{linesOf}
 
 -- no line is longer than 19 bytes: as many records are read as the buffer has 19s
 abbrev pub readOf : List ℕ → List ℕ → ℕ

@@ -3,10 +3,10 @@ use Prim.Native.Nat.{ℕ, suc, _+_, _*_, _/_, _%_, _≤_, _<_}
 use mathlib.Core.Path.{_≡_}
 use mathlib.Core.List.{List, [], map}
 use lib.ListN.{length, getD, take, drop}
-use Rattle.listing.specs.Text.{glyphOf}
+use Rattle.text.specs.Text.{glyphOf}
 use Rattle.encoding.specs.Rows.{Row, rows}
-use Rattle.listing.specs.Name.{undefined}
-use Rattle.listing.specs.Lines.{nameLine}
+use Rattle.text.specs.Name.{undefined}
+use Rattle.text.specs.Lines.{nameLine}
 
 -- a text of r bytes stands at the start of a buffer; nothing is said of the rest
 pub record Begins (text after : List ℕ) (r : ℕ) : Type 0 where

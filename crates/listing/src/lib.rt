@@ -1,14 +1,13 @@
-// Lists words: a line of text for each record of four bytes.
+// Lists words into a lent buffer: a line of the text that the crate `text` defines for each record of four bytes.
 ghost use mathlib.Core.Path.{_≡_};
 ghost use Prim.Native.Nat.{_*_, _/_, _%_, _≤_, _<_, min};
 ghost use lib.ListN.{length, take};
-ghost use Rattle.listing.specs.Text.{glyphOf, hexDigits};
+ghost use Rattle.text.specs.Text.{glyphOf, hexDigits};
 ghost use Rattle.encoding.specs.Rows.{rows};
-ghost use Rattle.listing.specs.Name.{nameOf};
-ghost use Rattle.listing.specs.Lines.{nameLine, wordOfBytes, linesOf};
+ghost use Rattle.text.specs.Name.{nameOf};
+ghost use Rattle.text.specs.Lines.{nameLine, wordOfBytes, linesOf};
 ghost use Rattle.listing.specs.Buffer.{Wrote, listedOf, outOf, carriedOf};
 ghost use Rattle.listing.specs.Private.{Begins, Began, nameAt, Pairs, Tails};
-ghost use Rattle.listing.specs.Claims.{LinesAppend};
 use encoding::table;
 use encoding::table::ROWS;
 use setting::Setting;
@@ -230,8 +229,3 @@ pub fn carry(buf: &mut [u8]) -> usize
     }
     left
 }
-
-// Input may be listed part by part, if the parts are of whole records.
-pub fn claims()
-    ensures { λ _. ⌜ LinesAppend ⌝ }
-{}

@@ -5,7 +5,7 @@ use Prim.Native.Nat.{ℕ, _/_, _%_, _^_}
 use native.Mathlib.Nat.{div-one, div-div-eq-div-mul}
 use native.Mathlib.Omega.{arith}
 use lib.ListN.{length, set, length-set}
-use Rattle.listing.specs.Text.{glyphOf, hexDigits}
+use Rattle.text.specs.Text.{glyphOf, hexDigits}
 use Rattle.element.proofs.Spelled.{spelled}
 use borrow.Author.Needs.{needs}
 use Rattle.listing.proofs.hex.Statement.{statement}

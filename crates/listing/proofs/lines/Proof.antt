@@ -5,10 +5,10 @@ use Prim.Native.Nat.{ℕ, _+_, _*_, _/_, _≤_}
 use native.Mathlib.Omega.{arith}
 use lib.ListN.{length, take, length-take}
 use Rattle.listing.specs.declared.Listed.{Listed}
-use Rattle.listing.specs.Lines.{linesOf}
+use Rattle.text.specs.Lines.{linesOf}
 use Rattle.listing.specs.Buffer.{readOf, Wrote, listedOf, outOf}
 use Rattle.listing.proofs.Over.{wrote-within, wrote-fits, wrote-more}
-use Rattle.listing.proofs.Append.{lines-next}
+use Rattle.text.proofs.Append.{lines-next}
 use borrow.Author.Needs.{needs}
 use Rattle.listing.proofs.lines.Statement.{statement}
 use Rattle.listing.proofs.lines.Tie as tie

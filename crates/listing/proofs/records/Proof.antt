@@ -5,13 +5,13 @@ use Prim.Native.Nat.{ℕ, _+_, _-_, _*_, _≤_}
 use native.Mathlib.Omega.{arith}
 use lib.ListN.{length, take, drop, length-take, length-drop}
 use borrow.Rule.Slice.PartMut.{midOf, putMid}
-use Rattle.listing.specs.Lines.{linesOf}
+use Rattle.text.specs.Lines.{linesOf}
 use Rattle.listing.specs.Buffer.{Wrote}
 use Rattle.listing.specs.Private.{Began}
 use Rattle.listing.proofs.Over.{wrote-fits, part-fits}
 use Rattle.listing.proofs.Begins.{began-last}
-use Rattle.listing.proofs.Append.{lines-next}
-use Rattle.listing.proofs.Parts.{line-long}
+use Rattle.text.proofs.Append.{lines-next}
+use Rattle.text.proofs.Parts.{line-long}
 use Rattle.listing.proofs.Tables.{pairs-right, tails-right}
 use borrow.Author.Needs.{needs}
 use Rattle.listing.proofs.records.Statement.{statement}

@@ -1,5 +1,5 @@
 -- `listing::short` meets its contract: what it puts is the line of one to three bytes.
-use Rattle.listing.proofs.Append.{short-lines}
+use Rattle.text.proofs.Append.{short-lines}
 use borrow.Author.Needs.{needs}
 use Rattle.listing.proofs.short.Statement.{statement}
 use Rattle.listing.proofs.short.Tie as tie

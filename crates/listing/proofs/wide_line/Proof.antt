@@ -1,19 +1,24 @@
 -- `listing::wide_line` meets its contract: the digits and behind them the row of the name, which begins with it.
-use mathlib.Core.Path.{_≡_, ap}
+use mathlib.Core.Path.{_≡_, refl, ap}
 use mathlib.Core.List.{List, _++_}
 use Prim.Native.Nat.{ℕ, _+_, _≤_}
 use native.Mathlib.Omega.{arith}
 use lib.ListN.{length, drop, length-append, length-take, length-drop}
 use borrow.Rule.Slice.PartMut.{putMid}
 use borrow.Author.Needs.{needs}
-use Rattle.listing.specs.Text.{hexDigits}
-use Rattle.listing.specs.Name.{nameOf}
-use Rattle.listing.specs.Lines.{nameLine, linesOf}
+use Rattle.text.specs.Text.{hexDigits}
+use Rattle.text.specs.Name.{nameOf}
+use Rattle.text.specs.Lines.{nameLine, linesOf}
+use Rattle.listing.specs.Buffer.{Wrote}
 use Rattle.listing.specs.Private.{Begins}
 use Rattle.listing.proofs.Begins.{wrote-begins, begins-within, begins-more}
-use Rattle.listing.proofs.Parts.{quadWord, line-text, digits-first}
+use Rattle.text.proofs.Parts.{quadWord, line-text}
 use Rattle.listing.proofs.wide_line.Statement.{statement}
 use Rattle.listing.proofs.wide_line.Tie as tie
+
+digits-first : (out : List ℕ) (w : ℕ) {hs : List ℕ} → hs ≡ hexDigits 8 w → Wrote (hexDigits 8 w) out (hs ++ drop 8 out) 8
+unfolding hexDigits
+digits-first out w e = record { count = refl; whole = rw e }
 
 line-begins : (q out : List ℕ) {hs ys name : List ℕ} {w r : ℕ}
     → length q ≡ 4

@@ -4,10 +4,10 @@ use mathlib.Core.List.{List}
 use Prim.Native.Nat.{ℕ, _+_, _-_, _*_, _≤_}
 use native.Mathlib.Omega.{arith}
 use lib.ListN.{length, take, length-take, length-drop}
-use Rattle.listing.specs.Lines.{linesOf}
+use Rattle.text.specs.Lines.{linesOf}
 use Rattle.listing.specs.Private.{Began}
 use Rattle.listing.proofs.Begins.{begins-within, began-more}
-use Rattle.listing.proofs.Append.{lines-next}
+use Rattle.text.proofs.Append.{lines-next}
 use Rattle.listing.proofs.wide_lines.Statement.{statement}
 use Rattle.listing.proofs.wide_lines.Tie as tie
 

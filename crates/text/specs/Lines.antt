@@ -1,8 +1,8 @@
 -- Document 01, "The lister": a line for each record of four bytes, and one for the bytes left over.
 use Prim.Native.Nat.{ℕ, _+_, _*_}
 use mathlib.Core.List.{List, [], _∷_, _++_}
-use Rattle.listing.specs.Text.{hexDigits}
-use Rattle.listing.specs.Name.{nameOf}
+use Rattle.text.specs.Text.{hexDigits}
+use Rattle.text.specs.Name.{nameOf}
 
 -- a space, a name, the end of the line
 abbrev pub nameLine : List ℕ → List ℕ

@@ -1,12 +1,12 @@
--- The lines of two parts, the first of whole records, are the lines of the whole: by recursion on the first, a record at a time.
+-- The lines of two parts, the first of whole records, are the lines of the whole: by recursion on the first, a record at a time. One to three bytes give SHORT: by their number.
 use mathlib.Core.Path.{_≡_, refl, sym, ap, _∙_}
 use mathlib.Core.List.{List, [], _∷_, _++_, append-assoc}
 use Prim.Native.Nat.{ℕ, _+_, _-_, _%_, _≤_}
 use native.Mathlib.Omega.{arith}
 use lib.ListN.{length, take, drop, length-take}
 use lib.Seq.{take-add}
-use Rattle.listing.specs.Lines.{wordOfBytes, lineOf, shortLine, linesOf}
-use Rattle.listing.specs.Claims.{LinesAppend}
+use Rattle.text.specs.Lines.{wordOfBytes, lineOf, linesOf}
+use Rattle.text.specs.Claims.{LinesAppend, ShortLines}
 
 pub lines-append : LinesAppend
 unfolding linesOf
@@ -26,7 +26,7 @@ lines-next input p e h l m =
     let z : length (take p input) % 4 ≡ 0 = simp length-take (omega arith) in
     ap (λ (n : ℕ). linesOf (take n input)) q ∙ ap linesOf (take-add p (e - p) input) ∙ lines-append (take p input) (take (e - p) (drop p input)) z
 
-pub short-lines : (s : List ℕ) → 1 ≤ length s → length s ≤ 3 → linesOf s ≡ shortLine (length s)
+pub short-lines : ShortLines
 unfolding linesOf
 short-lines [] l m = absurd (omega arith)
 short-lines (a ∷ []) l m = refl

@@ -1,0 +1,4 @@
+pub mod Text
+pub mod Name
+pub mod Lines
+pub mod Claims
