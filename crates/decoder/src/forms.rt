@@ -1,17 +1,19 @@
-// Fields as the instruction of a form.
+// Fields as the instruction of a form, and what each row of the table reads.
 ghost use mathlib.Core.Path.{_≡_};
 ghost use Rattle.setting.specs.Numbers.{accept};
 ghost use Rattle.element.specs.Units.{sizeAt};
-ghost use Rattle.encoding.specs.Decode.{decodedAs};
+ghost use Rattle.encoding.specs.Decode.{readAt, decodedAs};
 ghost use Rattle.encoding.specs.declared.Instruction.the-variants.{Pext1, Pext2, Luti4c, Luti4s, Uqrshrnb};
+ghost use Rattle.encoding.specs.Rows.{rows};
 ghost use Rattle.decoder.specs.Operands.{dupAs};
 use crate::DupOperands;
 use crate::Operands;
 use crate::fields;
 use encoding::Decoded;
 use encoding::Instruction;
+use setting::Answer;
 
-pub(crate) fn pext1(o: Operands) -> Decoded
+fn pext1(o: Operands) -> Decoded
     ensures { λ r. ⌜ decodedAs r ≡ accept (Pext1 (o .size) (o .immediate) (o .source) (o .destination)) ⌝ }
 {
     Decoded::Fields(Instruction::Pext1 {
@@ -22,7 +24,7 @@ pub(crate) fn pext1(o: Operands) -> Decoded
     })
 }
 
-pub(crate) fn pext2(o: Operands) -> Decoded
+fn pext2(o: Operands) -> Decoded
     ensures { λ r. ⌜ decodedAs r ≡ accept (Pext2 (o .size) (o .immediate) (o .source) (o .destination)) ⌝ }
 {
     Decoded::Fields(Instruction::Pext2 {
@@ -33,7 +35,7 @@ pub(crate) fn pext2(o: Operands) -> Decoded
     })
 }
 
-pub(crate) fn luti4c(o: Operands) -> Decoded
+fn luti4c(o: Operands) -> Decoded
     ensures { λ r. ⌜ decodedAs r ≡ accept (Luti4c (o .size) (o .immediate) (o .source) (o .destination)) ⌝ }
 {
     Decoded::Fields(Instruction::Luti4c {
@@ -44,7 +46,7 @@ pub(crate) fn luti4c(o: Operands) -> Decoded
     })
 }
 
-pub(crate) fn luti4s(o: Operands) -> Decoded
+fn luti4s(o: Operands) -> Decoded
     ensures { λ r. ⌜ decodedAs r ≡ accept (Luti4s (o .size) (o .immediate) (o .source) (o .destination)) ⌝ }
 {
     Decoded::Fields(Instruction::Luti4s {
@@ -55,7 +57,7 @@ pub(crate) fn luti4s(o: Operands) -> Decoded
     })
 }
 
-pub(crate) fn uqrshrnb(o: Operands) -> Decoded
+fn uqrshrnb(o: Operands) -> Decoded
     ensures { λ r. ⌜ decodedAs r ≡ accept (Uqrshrnb (o .size) (o .immediate) (o .source) (o .destination)) ⌝ }
 {
     Decoded::Fields(Instruction::Uqrshrnb {
@@ -76,7 +78,7 @@ fn size_at(log: u32) -> u32
     0
 }
 
-pub(crate) fn dup(o: DupOperands) -> Decoded
+fn dup(o: DupOperands) -> Decoded
     ensures { λ r. ⌜ decodedAs r ≡ accept (dupAs o) ⌝ }
 {
     let size = size_at(o.log);
@@ -88,4 +90,19 @@ pub(crate) fn dup(o: DupOperands) -> Decoded
         pn: o.pn,
         pd: o.pd,
     })
+}
+
+// What the row at a place of the table, from 0, reads a word as, whether it matches or not; 3 past the table's end.
+pub(crate) fn read(place: usize, word: u32) -> Decoded
+    ensures { λ r. ⌜ decodedAs r ≡ readAt rows place word ⌝ }
+{
+    match place {
+        0 => pext1(fields::pext1(word)),
+        1 => pext2(fields::pext2(word)),
+        2 => dup(fields::dup(word)),
+        3 => luti4c(fields::luti4c(word)),
+        4 => luti4s(fields::luti4s(word)),
+        5 => uqrshrnb(fields::uqrshrnb(word)),
+        _ => Decoded::Refused(Answer::Undefined),
+    }
 }

@@ -4,7 +4,7 @@ mod forms;
 mod layouts;
 
 ghost use mathlib.Core.Path.{_≡_};
-ghost use Rattle.encoding.specs.Decode.{readAt, decodeOf, decodedAs};
+ghost use Rattle.encoding.specs.Decode.{decodeOf, decodedAs};
 ghost use Rattle.encoding.specs.Rows.{rows};
 ghost use Rattle.encoding.specs.Places.{placeFirst, placeIn};
 use encoding::Decoded;
@@ -31,21 +31,6 @@ pub struct DupOperands {
     pub pd: u32,
 }
 
-// What the row at a place of the table, from 0, reads a word as, whether it matches or not; 3 past the table's end.
-fn read(place: usize, word: u32) -> Decoded
-    ensures { λ r. ⌜ decodedAs r ≡ readAt rows place word ⌝ }
-{
-    match place {
-        0 => forms::pext1(fields::pext1(word)),
-        1 => forms::pext2(fields::pext2(word)),
-        2 => forms::dup(fields::dup(word)),
-        3 => forms::luti4c(fields::luti4c(word)),
-        4 => forms::luti4s(fields::luti4s(word)),
-        5 => forms::uqrshrnb(fields::uqrshrnb(word)),
-        _ => Decoded::Refused(Answer::Undefined),
-    }
-}
-
 // What a word is read as under a setting.
 pub fn decode(setting: Setting, word: u32) -> Decoded
     ensures { λ r. ⌜ decodedAs r ≡ decodeOf setting word ⌝ }
@@ -54,7 +39,7 @@ pub fn decode(setting: Setting, word: u32) -> Decoded
     if !setting::allowed(setting) {
         return Decoded::Refused(Answer::NotAllowed);
     }
-    read(layouts::place_of(features, word), word)
+    forms::read(layouts::place_of(features, word), word)
 }
 
 // The place of the first row that matches a word, or ROWS, for whoever has tested the setting: by turns, so that where the same

@@ -1,4 +1,4 @@
--- Seven numbers: what the definitions are in each case of a list's length, and that seven stores fill a list of seven.
+-- Seven numbers: each form's are seven and read back, what the definitions are in each case of a list's length, and that seven stores fill a list of seven.
 use mathlib.Core.Path.{_≡_, refl, sym, ap, _∙_}
 use mathlib.Core.List.{List}
 use Prim.Native.Nat.{ℕ}
@@ -9,6 +9,7 @@ use Rattle.encoding.specs.declared.Instruction.{Instruction}
 use Rattle.encoding.specs.declared.Instruction.the-variants.{Pext1, Pext2, Dup, Luti4c, Luti4s, Uqrshrnb}
 use Rattle.element.proofs.Spelled.{spelled}
 use Rattle.numbers.specs.Fields.{numbersOf, numbersInto, instructionAt, instructionOf}
+use Rattle.numbers.specs.Claims.{NumbersRead}
 
 -- ---- reading
 seven : (i : Instruction) → length (numbersOf i) ≡ 7
@@ -18,6 +19,16 @@ seven (Dup size offset index pg pn pd) = refl
 seven (Luti4c size i1 zn zd) = refl
 seven (Luti4s size i1 zn zd) = refl
 seven (Uqrshrnb size shift zn zd) = refl
+
+-- read back: of each form by computing
+pub numbers-read : NumbersRead
+unfolding instructionOf
+numbers-read (Pext1 size imm2 counter pd) = refl
+numbers-read (Pext2 size i1 counter pd) = refl
+numbers-read (Dup size offset index pg pn pd) = refl
+numbers-read (Luti4c size i1 zn zd) = refl
+numbers-read (Luti4s size i1 zn zd) = refl
+numbers-read (Uqrshrnb size shift zn zd) = refl
 
 -- seven stores fill a list of seven
 stored : (out n : List ℕ) → length out ≡ 7 → length n ≡ 7

@@ -1,4 +1,4 @@
-// A stretch of words: whether two words conflict, and whether a rearrangement is permitted. The run is in `machine`.
+// A stretch of words: whether two words conflict, and whether a rearrangement is permitted. The run stands in `interpreter`.
 mod tables;
 mod touch;
 

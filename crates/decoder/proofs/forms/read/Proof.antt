@@ -4,8 +4,8 @@ use native.Mathlib.Omega.{arith}
 use Rattle.encoding.specs.Rows.{rows}
 use Rattle.encoding.proofs.Choice.{read-past}
 use borrow.Author.Needs.{needs}
-use Rattle.decoder.proofs.read.Statement.{statement}
-use Rattle.decoder.proofs.read.Tie as tie
+use Rattle.decoder.proofs.forms.read.Statement.{statement}
+use Rattle.decoder.proofs.forms.read.Tie as tie
 
 pext1-requires : tie.Need-pext1-requires
 pext1-requires c κs = search needs
