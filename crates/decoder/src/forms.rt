@@ -5,12 +5,11 @@ ghost use Rattle.element.specs.Units.{sizeAt};
 ghost use Rattle.encoding.specs.Decode.{readAt, decodedAs};
 ghost use Rattle.encoding.specs.declared.Instruction.the-variants.{Pext1, Pext2, Luti4c, Luti4s, Uqrshrnb};
 ghost use Rattle.encoding.specs.Rows.{rows};
-ghost use Rattle.decoder.specs.Operands.{dupAs};
-use crate::DupOperands;
-use crate::Operands;
-use crate::fields;
+ghost use Rattle.fields.specs.Operands.{dupAs};
 use encoding::Decoded;
 use encoding::Instruction;
+use fields::DupOperands;
+use fields::Operands;
 use setting::Answer;
 
 fn pext1(o: Operands) -> Decoded
@@ -73,7 +72,7 @@ fn size_at(log: u32) -> u32
     ensures { λ r. ⌜ r ≡ sizeAt log ⌝ }
 {
     if log < 4 {
-        return fields::element_size(log);
+        return 8 << log;
     }
     0
 }

@@ -4,7 +4,6 @@ ghost use Rattle.logic.specs.Pick.{pick};
 ghost use Rattle.encoding.specs.Rows.{rows};
 ghost use Rattle.encoding.specs.Places.{placeFirst};
 ghost use Rattle.decoder.specs.Private.{conditionAt, restAt};
-use crate::fields;
 use encoding::table;
 use encoding::table::ROWS;
 
@@ -16,11 +15,8 @@ fn condition(place: usize, word: u32) -> bool
         0 => true,
         1 => true,
         2 => (word / 0x400000 % 2 != 0) | (word / 0x40000 % 8 != 0),
-        3 => {
-            let size = fields::luti_size(word);
-            (size == 1) | (size == 2)
-        }
-        4 => fields::luti_size(word) == 1,
+        3 => (word / 0x1000 % 4 == 1) | (word / 0x1000 % 4 == 2),
+        4 => word / 0x1000 % 4 == 1,
         5 => (word / 0x400000 % 2 != 0) | (word / 0x80000 % 4 != 0),
         _ => false,
     }

@@ -1,5 +1,4 @@
-// Reads words: the row of the table that a word has, and its fields.
-pub mod fields;
+// Reads words: the place of the row that a word has, and the instruction that its fields are.
 mod forms;
 mod layouts;
 
@@ -11,25 +10,6 @@ use encoding::Decoded;
 use encoding::table::ROWS;
 use setting::Answer;
 use setting::Setting;
-
-// The fields of every form but DUP, the size by its log too; the immediate is a portion, i1 or a shift.
-pub struct Operands {
-    pub size: u32,
-    pub log: u32,
-    pub immediate: u32,
-    pub source: u32,
-    pub destination: u32,
-}
-
-// DUP's, whose size is 8 · 2^log; a log of 4 or more is none.
-pub struct DupOperands {
-    pub log: u32,
-    pub offset: u32,
-    pub index: u32,
-    pub pg: u32,
-    pub pn: u32,
-    pub pd: u32,
-}
 
 // What a word is read as under a setting.
 pub fn decode(setting: Setting, word: u32) -> Decoded

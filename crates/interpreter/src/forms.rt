@@ -5,7 +5,6 @@ ghost use mathlib.Core.List.{[], _∷_};
 ghost use Prim.Native.Nat.{_-_, _≤_, _<_};
 ghost use lib.ListN.{getD};
 ghost use Rattle.machine.specs.Private.{PredicateWord, VectorWord, TablelessWord, HasV, HasVS, HasST, HasWV};
-use decoder::fields;
 use setting::Answer;
 use setting::Setting;
 

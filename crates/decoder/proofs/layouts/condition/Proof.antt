@@ -11,12 +11,6 @@ use borrow.Author.Needs.{needs}
 use Rattle.decoder.proofs.layouts.condition.Statement.{statement}
 use Rattle.decoder.proofs.layouts.condition.Tie as tie
 
-luti-size-requires : tie.Need-luti-size-requires
-luti-size-requires c κs = search needs
-
-luti-size-requires-2 : tie.Need-luti-size-requires-2
-luti-size-requires-2 c κs = search needs
-
 returns : tie.Need-returns
 returns c = search needs
 
@@ -27,10 +21,10 @@ returns-3 : tie.Need-returns-3
 returns-3 c = let w = c .before .args .word in rw (c .match .keys3) (not-both-zero 7 (w / 0x400000 % 2) (w / 0x40000 % 8))
 
 returns-4 : tie.Need-returns-4
-returns-4 c = rw (c .before .match .keys4, c .luti-size .ensures .0)
+returns-4 c = rw (c .match .keys4)
 
 returns-5 : tie.Need-returns-5
-returns-5 c = rw (c .before .match .keys5, c .luti-size2 .ensures .0)
+returns-5 c = rw (c .match .keys5)
 
 returns-6 : tie.Need-returns-6
 returns-6 c = let w = c .before .args .word in rw (c .match .keys6) (not-both-zero 3 (w / 0x400000 % 2) (w / 0x80000 % 4))
@@ -42,8 +36,6 @@ pub condition-spec : {M : Type 1} → statement M
 condition-spec =
     tie.close
     (tie.spec
-    luti-size-requires
-    luti-size-requires-2
     returns
     returns-2
     returns-3
