@@ -27,7 +27,7 @@ const FIXED: [u32; ROWS] = [
     0x45203800,
 ];
 
-// The names, a row of 16 bytes for each and one for no row: as they follow a word's digits in a listing, and how long that is.
+// The names, 16 bytes for each row and 16 for no row: as they follow a word's digits in a listing, and how long that is.
 pub const NAMES: [u8; 16 * (ROWS + 1)] =
     *b" PEXT1\n......... PEXT2\n......... DUP\n........... LUTI4C\n........ LUTI4S\n........ UQRSHRNB\n...... UNDEFINED\n.....";
 

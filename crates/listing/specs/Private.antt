@@ -27,7 +27,7 @@ pub record Pairs (t : List ℕ) : Type 0 where
 abbrev pub nameAt : ℕ → List ℕ
 nameAt k = getD (map (λ (r : Row). r .name []) rows) k undefined
 
--- each row of 16 begins with what follows the digits in a line, a space, a name of three letters or more and a newline
+-- each 16 bytes begin with what follows the digits in a line, a space, a name of three letters or more and a newline
 pub record Tails (names lengths : List ℕ) : Type 0 where
   pub size : length names ≡ 16 * suc (length rows)
   pub begins : (i : ℕ) → i ≤ length rows → Begins (nameLine (nameAt i)) (take 11 (drop (16 * i) names)) (getD lengths i 0)

@@ -89,7 +89,7 @@ fn short(left: &[u8], out: &mut [u8]) -> usize
     put(&text, out)
 }
 
-// The row of the name, all 11 bytes of it: a jump on i would be mispredicted.
+// The name, all 11 bytes that there may be of it: a jump on i would be mispredicted.
 fn tail(names: &[u8], lengths: &[usize; COUNT], i: usize, out: &mut [u8]) -> usize
     requires { ⌜ (Tails (now names) (now lengths)) × (i ≤ length rows) × (length (now out) ≡ 11) ⌝ }
     ensures { λ r. ⌜ (Begins (nameLine (nameAt i)) (now (out .exit)) r) × (5 ≤ r) ⌝ }

@@ -1,4 +1,4 @@
--- The bytes of two numbers are those of one, the second raised past the first: bytes split at any place, and what is past them does not count. Over the width.
+-- The bytes of two numbers are those of one, the second raised above-cut the first: bytes split at any place, and what is above-cut them does not count. Over the width.
 use mathlib.Core.Path.{_≡_, refl, sym, ap, _∙_}
 use mathlib.Core.List.{_++_}
 use Prim.Native.Nat.{ℕ, zero, suc, _+_, _*_, _/_, _%_, _^_, _≤_, _<_}
@@ -14,18 +14,18 @@ power-pos : (w : ℕ) → 0 < 256 ^ w
 power-pos zero = lit< tt
 power-pos (suc w) = rw (power-more w) (omega (arith, power-pos w))
 
--- what is past the bytes
-past : (w x y : ℕ) → bytes w (x + 256 ^ w * y) ≡ bytes w x
+-- what is above-cut the bytes
+above-cut : (w x y : ℕ) → bytes w (x + 256 ^ w * y) ≡ bytes w x
 unfolding bytes
-past zero x y = refl
-past (suc w) x y =
+above-cut zero x y = refl
+above-cut (suc w) x y =
     let p : 256 ^ suc w * y ≡ 256 * (256 ^ w * y) = ap (λ (n : ℕ). n * y) (power-more w) ∙ mul-assoc 256 (256 ^ w) y in
     let m : (x + 256 * (256 ^ w * y)) % 256 ≡ x % 256 = omega arith in
     let d : (x + 256 * (256 ^ w * y)) / 256 ≡ x / 256 + 256 ^ w * y = omega arith in
-    rw (p, m, d, past w (x / 256) y)
+    rw (p, m, d, above-cut w (x / 256) y)
 
 cut : (w x : ℕ) → bytes w (x % 256 ^ w) ≡ bytes w x
-cut w x = sym (past w (x % 256 ^ w) (x / 256 ^ w)) ∙ ap (bytes w) (mod-add-div x (256 ^ w))
+cut w x = sym (above-cut w (x % 256 ^ w) (x / 256 ^ w)) ∙ ap (bytes w) (mod-add-div x (256 ^ w))
 
 -- a place where they split
 split-at : (a b x : ℕ) → bytes (a + b) x ≡ bytes a x ++ bytes b (x / 256 ^ a)
@@ -40,7 +40,7 @@ both-bytes w x y =
     let p = power-pos w in
     let d : (x % 256 ^ w + y % 256 ^ w * 256 ^ w) / 256 ^ w ≡ y % 256 ^ w = add-mul-div-right (x % 256 ^ w) (y % 256 ^ w) p ∙ rw (div-eq-of-lt (mod-lt x p)) (omega arith) in
     let c : x % 256 ^ w + y % 256 ^ w * 256 ^ w ≡ x % 256 ^ w + 256 ^ w * (y % 256 ^ w) = rw (mul-comm (y % 256 ^ w) (256 ^ w)) in
-    split-at w w (x % 256 ^ w + y % 256 ^ w * 256 ^ w) ∙ rw (d, c, past w (x % 256 ^ w) (y % 256 ^ w), cut w x, cut w y)
+    split-at w w (x % 256 ^ w + y % 256 ^ w * 256 ^ w) ∙ rw (d, c, above-cut w (x % 256 ^ w) (y % 256 ^ w), cut w x, cut w y)
 
 -- the number of both fits 64 bits where each fits 32
 pub both-below : (m x y : ℕ) → 0 < m → m ≤ 4294967296 → x % m + y % m * m < 18446744073709551616
