@@ -1,4 +1,4 @@
--- The bytes of two numbers are those of one, the second raised above-cut the first: bytes split at any place, and what is above-cut them does not count. Over the width.
+-- The bytes of two numbers are those of one, the second raised past the first: bytes split at any place, and what is above-cut them does not count. Over the width.
 use mathlib.Core.Path.{_≡_, refl, sym, ap, _∙_}
 use mathlib.Core.List.{_++_}
 use Prim.Native.Nat.{ℕ, zero, suc, _+_, _*_, _/_, _%_, _^_, _≤_, _<_}
@@ -14,7 +14,7 @@ power-pos : (w : ℕ) → 0 < 256 ^ w
 power-pos zero = lit< tt
 power-pos (suc w) = rw (power-more w) (omega (arith, power-pos w))
 
--- what is above-cut the bytes
+-- what is past the bytes
 above-cut : (w x y : ℕ) → bytes w (x + 256 ^ w * y) ≡ bytes w x
 unfolding bytes
 above-cut zero x y = refl
