@@ -1,4 +1,4 @@
--- The bytes of two numbers are those of one, the second raised past the first: bytes split at any place, and what is above-cut them does not count. Over the width.
+-- The bytes of two numbers are those of one, the second raised past the first: bytes split at any place, and what is past them does not count. Over the width.
 use mathlib.Core.Path.{_≡_, refl, sym, ap, _∙_}
 use mathlib.Core.List.{_++_}
 use Prim.Native.Nat.{ℕ, zero, suc, _+_, _*_, _/_, _%_, _^_, _≤_, _<_}
