@@ -8,6 +8,7 @@ use lib.ListN.{length}
 use borrow.Author.Tests.{eqb-true, ltb-true}
 use Rattle.setting.specs.Allowed.{lengthAllowed}
 use Rattle.part.proofs.Lengths.{lengths-of}
+use Rattle.element.specs.Files.{predicateFile}
 use Rattle.element.specs.Size.{isSize}
 use Rattle.element.specs.Slots.{slot, setSlot}
 use Rattle.element.specs.Units.{sizeAt}
@@ -19,16 +20,16 @@ use Rattle.dup.specs.Private.{DuplicateReady}
 pub dup-ready : (bytes vl log offset pg pn pd : ℕ) → dupReady bytes vl (sizeAt log) offset pg pn pd ≡ true → DuplicateReady bytes vl log pg pn pd
 unfolding dupReady
 dup-ready bytes vl log offset pg pn pd h =
-    let file = eqb bytes 512 && lengthAllowed vl in
+    let file = eqb bytes predicateFile && lengthAllowed vl in
     let sized = isSize (sizeAt log) in
     let a = both-yes (file && sized && ltb offset 16) (ltb pg 16 && ltb pn 16 && ltb pd 16) h in
     let b = both-yes (file && sized) (ltb offset 16) (a .0) in
     let d = both-yes file sized (b .0) in
-    let e = both-yes (eqb bytes 512) (lengthAllowed vl) (d .0) in
+    let e = both-yes (eqb bytes predicateFile) (lengthAllowed vl) (d .0) in
     let f = both-yes (ltb pg 16 && ltb pn 16) (ltb pd 16) (a .1) in
     let g = both-yes (ltb pg 16) (ltb pn 16) (f .0) in
     record {
-      file = eqb-true bytes 512 (e .0);
+      file = eqb-true bytes predicateFile (e .0);
       allowed = e .1;
       length = lengths-of vl (e .1);
       sized = ltb-true log 4 (sym (is-size-at log) ∙ d .1);

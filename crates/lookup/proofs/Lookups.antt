@@ -12,6 +12,7 @@ use Rattle.element.proofs.Filling.{part-length, same}
 use Rattle.part.specs.Parts.{storedOf}
 use Rattle.part.specs.Private.{Width}
 use Rattle.part.proofs.Widths.{element-stored}
+use Rattle.lookup.specs.Lookup.{indexBits}
 use Rattle.lookup.specs.Private.{ElementBytes, Raised}
 use Rattle.lookup.proofs.Bytes.{both-bytes, both-below}
 
@@ -32,14 +33,14 @@ sizes h =
     h
 
 -- ---- a byte's two fields
-low-field : (q : ℕ) (s : List ℕ) → getD s q 0 % 16 ≡ field 4 (q * 2 + 0) s
+low-field : (q : ℕ) (s : List ℕ) → getD s q 0 % 16 ≡ field indexBits (q * 2 + 0) s
 unfolding field
 low-field q s =
     let d : (q * 2 + 0) * 4 / 8 ≡ q = omega arith in
     let m : (q * 2 + 0) * 4 % 8 ≡ 0 = omega arith in
     rw (d, m) (omega arith)
 
-high-field : (q : ℕ) (s : List ℕ) → getD s q 0 < 256 → getD s q 0 / 16 ≡ field 4 (q * 2 + 1) s
+high-field : (q : ℕ) (s : List ℕ) → getD s q 0 < 256 → getD s q 0 / 16 ≡ field indexBits (q * 2 + 1) s
 unfolding field
 high-field q s h =
     let d : (q * 2 + 1) * 4 / 8 ≡ q = omega arith in
@@ -52,7 +53,7 @@ byte-looked : {x y : ℕ} (m w q : ℕ) (s zt : List ℕ)
     → getD s q 0 < 256
     → x ≡ elem 4 (getD s q 0 % 16) zt
     → y ≡ elem 4 (getD s q 0 / 16) zt % m * m
-    → bytes (2 * w) (x % m + y) ≡ fill (λ j. elem 4 (field 4 (q * 2 + j) s) zt) w 2
+    → bytes (2 * w) (x % m + y) ≡ fill (λ j. elem 4 (field indexBits (q * 2 + j) s) zt) w 2
 unfolding fill
 byte-looked m w q s zt p h ex ey =
     let d : 2 * w ≡ w + w = omega arith in
@@ -68,7 +69,7 @@ pub pair-stored : {x y : ℕ} (m w q n : ℕ) (s zt o : List ℕ) {ys : List ℕ
     → x ≡ elem 4 (getD s q 0 % 16) zt
     → y ≡ elem 4 (getD s q 0 / 16) zt % m * m
     → ys ≡ storedOf (take (q * (2 * w) + 2 * w - q * (2 * w)) (drop (q * (2 * w)) o)) (x % m + y)
-    → ys ≡ fill (λ j. elem 4 (field 4 (q * 2 + j) s) zt) w 2
+    → ys ≡ fill (λ j. elem 4 (field indexBits (q * 2 + j) s) zt) w 2
 pair-stored {x} {y} m w q n s zt o l e v p h ex ey st =
     element-stored q n (2 * w) o l e (sizes v .double) (x % m + y) st
     ∙ ap (λ (k : ℕ). bytes k (x % m + y)) (part-length q n (2 * w) o l e)
@@ -92,11 +93,11 @@ sum-below m x i zt high r p h l = rw (r i l) (both-below m x (elem 4 i zt) p h)
 pub taken-length : {k n : ℕ} (i : ℕ) (s : List ℕ) → k ≡ n → i + n ≤ length s → length (take k (drop i s)) ≡ n
 taken-length i s e h = rw e (simp (length-take, length-drop) (omega arith))
 
-pub kept-field : (n e : ℕ) (s : List ℕ) → e < n * 2 → field 4 e (take n s) ≡ field 4 e s
+pub kept-field : (n e : ℕ) (s : List ℕ) → e < n * 2 → field indexBits e (take n s) ≡ field indexBits e s
 unfolding field
 kept-field n e s h = rw (getD-take n s (e * 4 / 8) 0 (omega arith))
 
-taken-field : (i n e : ℕ) (s : List ℕ) → e < n * 2 → field 4 e (take n (drop i s)) ≡ field 4 (i * 2 + e) s
+taken-field : (i n e : ℕ) (s : List ℕ) → e < n * 2 → field indexBits e (take n (drop i s)) ≡ field indexBits (i * 2 + e) s
 unfolding field
 taken-field i n e s h =
     let d : (i * 2 + e) * 4 / 8 ≡ i + e * 4 / 8 = omega arith in
@@ -105,6 +106,6 @@ taken-field i n e s h =
 
 -- the elements that they name, from element `from` on
 pub taken-looked : {k n from : ℕ} (w i : ℕ) (s zt : List ℕ) → k ≡ n → i * 2 ≡ from → i + n ≤ length s
-    → fill (λ e. elem 4 (field 4 e (take k (drop i s))) zt) w (length (take k (drop i s)) * 2) ≡ fill (λ e. elem 4 (field 4 (from + e) s) zt) w (n * 2)
+    → fill (λ e. elem 4 (field indexBits e (take k (drop i s))) zt) w (length (take k (drop i s)) * 2) ≡ fill (λ e. elem 4 (field indexBits (from + e) s) zt) w (n * 2)
 taken-looked {k} {n} {from} w i s zt e f h =
-    rw (taken-length i s e h, e) (same _ _ w (n * 2) (λ j l. ap (λ (x : ℕ). elem 4 x zt) (taken-field i n j s l ∙ ap (λ (x : ℕ). field 4 (x + j) s) f)))
+    rw (taken-length i s e h, e) (same _ _ w (n * 2) (λ j l. ap (λ (x : ℕ). elem 4 x zt) (taken-field i n j s l ∙ ap (λ (x : ℕ). field indexBits (x + j) s) f)))

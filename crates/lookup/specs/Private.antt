@@ -37,13 +37,13 @@ pub record RaisedReady (table m : ℕ) : Type 0 where
 
 pub record TableReady (table w : ℕ) : Type 0 where
   pub entries : table ≡ tableFile
-  pub width : ElementBytes w
+  pub bytes : ElementBytes w
 
 -- two elements of w bytes for each byte of indexes
 pub record PairsReady (source room m w : ℕ) (table high : List ℕ) : Type 0 where
   pub entries : length table ≡ tableFile
   pub raised : Raised m table high
-  pub width : ElementBytes w
+  pub bytes : ElementBytes w
   pub power : m ≡ 256 ^ w
   pub whole : room ≡ source * (2 * w)
 

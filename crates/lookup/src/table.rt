@@ -4,7 +4,7 @@ ghost use Prim.Native.Nat.{_+_, _*_, _/_, _^_, _≤_, _<_};
 ghost use lib.ListN.{length};
 ghost use Rattle.element.specs.Contents.{elem, field, fill};
 ghost use Rattle.element.specs.Slots.{slot};
-ghost use Rattle.lookup.specs.Lookup.{segmentOf, lutiFile};
+ghost use Rattle.lookup.specs.Lookup.{indexBits, destinations, segmentOf, lutiFile};
 ghost use Rattle.lookup.specs.Private.{EntryReady, Raised, RaisedReady, TableReady, PairsReady, Chunked, Result, LutiReady};
 
 // The entry of ZT0 at a place.
@@ -34,7 +34,7 @@ fn raised(zt: &[u8], m: u64) -> [u64; 16]
 // Two elements for each byte of indexes, both written at once.
 fn pairs(s: &[u8], zt: &[u8], high: &[u64; 16], m: u64, w: usize, o: &mut [u8])
     requires { ⌜ PairsReady (length (now s)) (length (now o)) m w (now zt) (now high) ⌝ }
-    ensures { λ _. ⌜ now (o .exit) ≡ fill (λ e. elem 4 (field 4 e (now (s .entry))) (now (zt .entry))) w (length (now (s .entry)) * 2) ⌝ }
+    ensures { λ _. ⌜ now (o .exit) ≡ fill (λ e. elem 4 (field indexBits e (now (s .entry))) (now (zt .entry))) w (length (now (s .entry)) * 2) ⌝ }
 {
     let mut q: usize = 0;
     while q < s.len() {
@@ -50,7 +50,7 @@ fn pairs(s: &[u8], zt: &[u8], high: &[u64; 16], m: u64, w: usize, o: &mut [u8])
 // The same by 64 bytes of the destination, whose number is a literal, so that LLVM unrolls the loop; fewer at once.
 fn look(s: &[u8], zt: &[u8], high: &[u64; 16], m: u64, w: usize, o: &mut [u8])
     requires { ⌜ PairsReady (length (now s)) (length (now o)) m w (now zt) (now high) × Chunked (length (now s)) w ⌝ }
-    ensures { λ _. ⌜ now (o .exit) ≡ fill (λ e. elem 4 (field 4 e (now (s .entry))) (now (zt .entry))) w (length (now (s .entry)) * 2) ⌝ }
+    ensures { λ _. ⌜ now (o .exit) ≡ fill (λ e. elem 4 (field indexBits e (now (s .entry))) (now (zt .entry))) w (length (now (s .entry)) * 2) ⌝ }
 {
     let per = 32 / w;
     if s.len() < per {
@@ -82,7 +82,7 @@ fn raised_by(zt: &[u8], w: usize) -> [u64; 16]
 
 fn look_by(s: &[u8], zt: &[u8], high: &[u64; 16], w: usize, o: &mut [u8])
     requires { ⌜ PairsReady (length (now s)) (length (now o)) (256 ^ w) w (now zt) (now high) × Chunked (length (now s)) w ⌝ }
-    ensures { λ _. ⌜ now (o .exit) ≡ fill (λ e. elem 4 (field 4 e (now (s .entry))) (now (zt .entry))) w (length (now (s .entry)) * 2) ⌝ }
+    ensures { λ _. ⌜ now (o .exit) ≡ fill (λ e. elem 4 (field indexBits e (now (s .entry))) (now (zt .entry))) w (length (now (s .entry)) * 2) ⌝ }
 {
     if w == 2 {
         look(s, zt, high, 65536, 2, o);
@@ -106,7 +106,7 @@ fn slot_of(z: &[u8], k: usize) -> [u8; 256]
 // How many bytes of indexes a destination has, with no division by a variable.
 fn index_bytes(vl: usize, size: usize) -> usize
     requires { ⌜ Result size ⌝ }
-    ensures { λ r. ⌜ r ≡ vl / size * 4 / 8 ⌝ }
+    ensures { λ r. ⌜ r ≡ vl / size * indexBits / 8 ⌝ }
 {
     if size == 16 { vl / 32 } else { vl / 64 }
 }
@@ -122,8 +122,8 @@ fn four_destinations(
     first: usize,
     stride: usize,
 )
-    requires { ⌜ LutiReady (length (now z)) (length (now zt)) vl 4 size 4 segment zn first stride ⌝ }
-    ensures { λ _. ⌜ now (z .exit) ≡ lutiFile 4 size vl 4 segment zn first stride (now (zt .entry)) (now (z .entry)) 4 ⌝ }
+    requires { ⌜ LutiReady (length (now z)) (length (now zt)) vl indexBits size destinations segment zn first stride ⌝ }
+    ensures { λ _. ⌜ now (z .exit) ≡ lutiFile indexBits size vl destinations segment zn first stride (now (zt .entry)) (now (z .entry)) destinations ⌝ }
 {
     let n = vl / 8;
     let w = size / 8;
@@ -142,7 +142,7 @@ fn four_destinations(
 }
 
 // Each size with its segment, of which 16 bits have one. Two calls that differ in two numbers stay two for LLVM, which then keeps
-// `four` apart and tests what a word's fields say where these are read.
+// `four_destinations` apart and tests what a word's fields say where these are read.
 pub(crate) fn luti4_file(
     z: &mut [u8],
     zt: &[u8],
@@ -153,8 +153,8 @@ pub(crate) fn luti4_file(
     first: usize,
     stride: usize,
 )
-    requires { ⌜ LutiReady (length (now z)) (length (now zt)) vl 4 size 4 (segmentOf 4 size 4 i1) zn first stride × (i1 < 2) ⌝ }
-    ensures { λ _. ⌜ now (z .exit) ≡ lutiFile 4 size vl 4 (segmentOf 4 size 4 i1) zn first stride (now (zt .entry)) (now (z .entry)) 4 ⌝ }
+    requires { ⌜ LutiReady (length (now z)) (length (now zt)) vl indexBits size destinations (segmentOf indexBits size destinations i1) zn first stride × (i1 < 2) ⌝ }
+    ensures { λ _. ⌜ now (z .exit) ≡ lutiFile indexBits size vl destinations (segmentOf indexBits size destinations i1) zn first stride (now (zt .entry)) (now (z .entry)) destinations ⌝ }
 {
     if size == 16 {
         four_destinations(z, zt, vl, 16, 0, zn, first, stride);

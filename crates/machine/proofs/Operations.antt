@@ -10,6 +10,7 @@ use lib.ListN.{length, getD}
 use lib.Seq.{slice, take-all}
 use borrow.Author.Tests.{lt-ltb, le-leb, ltb-true, leb-true}
 use Rattle.setting.specs.Allowed.{lengthAllowed}
+use Rattle.element.specs.Files.{vectorFile, predicateFile, tableFile}
 use Rattle.element.specs.Size.{isSize}
 use Rattle.element.specs.Slots.{slot}
 use Rattle.order.specs.Touch.{gets, puts}
@@ -35,13 +36,13 @@ size-of-pext bound size portion counter pd e =
 
 -- the tests of the leaves hold
 pext-ready : (bound size portion counter pd first n vl : ℕ) → pextInRange bound size portion counter pd ≡ true → (eqb n 1 || eqb n 2) ≡ true → first + n ≤ 4 → lengthAllowed vl ≡ true
-    → pextReady 512 vl size first n counter pd ≡ true
+    → pextReady predicateFile vl size first n counter pd ≡ true
 unfolding pextReady
 pext-ready bound size portion counter pd first n vl e h l a =
     let g = pext-ranges bound size portion counter pd e in
     rw (a, size-of-pext bound size portion counter pd e, h, le-leb (first + n) 4 l, lt-ltb counter 16 (g .counter-lt), lt-ltb pd 16 (g .pd-lt))
 
-dup-ready : (size offset index pg pn pd vl : ℕ) → dupInRange size offset index pg pn pd ≡ true → lengthAllowed vl ≡ true → dupReady 512 vl size offset pg pn pd ≡ true
+dup-ready : (size offset index pg pn pd vl : ℕ) → dupInRange size offset index pg pn pd ≡ true → lengthAllowed vl ≡ true → dupReady predicateFile vl size offset pg pn pd ≡ true
 unfolding dupReady
 dup-ready size offset index pg pn pd vl e a =
     let g = dup-ranges size offset index pg pn pd e in
@@ -51,7 +52,7 @@ dup-ready size offset index pg pn pd vl e a =
     offset-lt : (n o : ℕ) → isSize n ≡ true → o < 128 / n → o < 16
     offset-lt n o h l = size-cases (λ n. (k : ℕ) → k < 128 / n → k < 16) (λ k l. l) (λ k l. omega arith) (λ k l. omega arith) (λ k l. omega arith) n h o l
 
-narrow-ready : (size shift zn zd vl : ℕ) → narrowInRange size shift zn zd ≡ true → lengthAllowed vl ≡ true → narrowReady 8192 vl size shift zn zd ≡ true
+narrow-ready : (size shift zn zd vl : ℕ) → narrowInRange size shift zn zd ≡ true → lengthAllowed vl ≡ true → narrowReady vectorFile vl size shift zn zd ≡ true
 unfolding narrowReady
 narrow-ready size shift zn zd vl e a =
     let g = narrow-ranges size shift zn zd e in
@@ -59,7 +60,7 @@ narrow-ready size shift zn zd vl e a =
     let l : 0 < shift = leb-true 1 shift (k .0) in
     rw (a, g .0, lt-ltb 0 shift l, k .1, lt-ltb zn 32 (g .2), lt-ltb zd 32 (g .3))
 
-luti4c-ready : (size i1 zn zd vl : ℕ) → inRange (Luti4c size i1 zn zd) ≡ true → lengthAllowed vl ≡ true → luti4Ready 8192 64 vl size i1 zn zd 1 ≡ true
+luti4c-ready : (size i1 zn zd vl : ℕ) → inRange (Luti4c size i1 zn zd) ≡ true → lengthAllowed vl ≡ true → luti4Ready vectorFile tableFile vl size i1 zn zd 1 ≡ true
 unfolding luti4Ready
 luti4c-ready size i1 zn zd vl e a =
     let g = luti-ranges (eqb size 16 || eqb size 32) i1 zn (eqb (zd % 4) 0 && leb zd 28) e in
@@ -67,7 +68,7 @@ luti4c-ready size i1 zn zd vl e a =
     let l : zd + 3 * 1 < 32 = omega arith in
     rw (a, g .0, lt-ltb i1 2 (g .1), lt-ltb zn 32 (g .2), lt-ltb (zd + 3 * 1) 32 l)
 
-luti4s-ready : (size i1 zn zd vl : ℕ) → inRange (Luti4s size i1 zn zd) ≡ true → lengthAllowed vl ≡ true → luti4Ready 8192 64 vl size i1 zn zd 4 ≡ true
+luti4s-ready : (size i1 zn zd vl : ℕ) → inRange (Luti4s size i1 zn zd) ≡ true → lengthAllowed vl ≡ true → luti4Ready vectorFile tableFile vl size i1 zn zd 4 ≡ true
 unfolding luti4Ready
 luti4s-ready size i1 zn zd vl e a =
     let g = luti-ranges (eqb size 16) i1 zn (ltb zd 4 || (leb 16 zd && ltb zd 20)) e in
@@ -85,8 +86,8 @@ one-of-four (suc (suc (suc zero))) a b c d h = refl
 one-of-four (suc (suc (suc (suc j)))) a b c d h = absurd (omega arith)
 
 -- the table's slot is the whole table
-whole-table : (t : List ℕ) → length t ≡ 64 → slice (64 * 0) (64 * 0 + 64) t ≡ t
-whole-table t h = take-all 64 t (omega arith)
+whole-table : (t : List ℕ) → length t ≡ tableFile → slice (tableFile * 0) (tableFile * 0 + tableFile) t ≡ t
+whole-table t h = take-all tableFile t (omega arith)
 
 module _ (z p p′ zt : List ℕ) (s : Scalars) (vl : ℕ) where
   pub pext1-done : (size imm2 counter pd : ℕ) → Ready (length z) (length p) (length zt) vl (Pext1 size imm2 counter pd) → p′ ≡ pextLeaves vl size imm2 1 counter pd p

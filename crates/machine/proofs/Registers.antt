@@ -35,20 +35,20 @@ module _ (size n : ℕ) (apart : (j k : ℕ) → j < k → size * j + n ≤ size
       go (no l) = sets-comm (take n d) file (size * k) (size * j) (take n c) (omega (arith, apart k j (omega (arith, eqb-false j k h)), length-take n d))
 
 -- ---- files put in are the files: four of them, the last of four index registers
-four : (u : List ℕ) → length u ≡ 4 → getD u 0 0 ∷ getD u 1 0 ∷ getD u 2 0 ∷ getD u 3 0 ∷ [] ≡ u
-four [] h = absurd (omega arith)
-four (a ∷ []) h = absurd (omega arith)
-four (a ∷ b ∷ []) h = absurd (omega arith)
-four (a ∷ b ∷ c ∷ []) h = absurd (omega arith)
-four (a ∷ b ∷ c ∷ d ∷ []) h = refl
-four (a ∷ b ∷ c ∷ d ∷ e ∷ l) h = absurd (omega arith)
+list-of-four : (u : List ℕ) → length u ≡ 4 → getD u 0 0 ∷ getD u 1 0 ∷ getD u 2 0 ∷ getD u 3 0 ∷ [] ≡ u
+list-of-four [] h = absurd (omega arith)
+list-of-four (a ∷ []) h = absurd (omega arith)
+list-of-four (a ∷ b ∷ []) h = absurd (omega arith)
+list-of-four (a ∷ b ∷ c ∷ []) h = absurd (omega arith)
+list-of-four (a ∷ b ∷ c ∷ d ∷ []) h = refl
+list-of-four (a ∷ b ∷ c ∷ d ∷ e ∷ l) h = absurd (omega arith)
 
 files-with : (l : List (List ℕ)) (m : Machine) → length l ≡ 4 → length (getD l 3 []) ≡ 4 → files (withFiles l m) ≡ l
 files-with [] m h k = absurd (omega arith)
 files-with (x ∷ []) m h k = absurd (omega arith)
 files-with (x ∷ y ∷ []) m h k = absurd (omega arith)
 files-with (x ∷ y ∷ z ∷ []) m h k = absurd (omega arith)
-files-with (x ∷ y ∷ z ∷ u ∷ []) m h k = ap (λ (w : List ℕ). x ∷ y ∷ z ∷ w ∷ []) (four u k)
+files-with (x ∷ y ∷ z ∷ u ∷ []) m h k = ap (λ (w : List ℕ). x ∷ y ∷ z ∷ w ∷ []) (list-of-four u k)
 files-with (x ∷ y ∷ z ∷ u ∷ v ∷ l) m h k = absurd (omega arith)
 
 -- ---- registers

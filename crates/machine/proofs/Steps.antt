@@ -14,6 +14,7 @@ use Rattle.order.specs.Touch.{perform}
 use Rattle.encoding.specs.Rows.{rows}
 use Rattle.encoding.specs.Decode.{firstOf, decodeOf}
 use Rattle.encoding.specs.declared.Instruction.{Instruction}
+use Rattle.element.specs.Files.{vectorFile, predicateFile, tableFile}
 use Rattle.element.proofs.Tests.{both-yes}
 use Rattle.encoding.proofs.Apart.{decide}
 use Rattle.encoding.proofs.Round.{read-in-range}
@@ -83,12 +84,12 @@ module _ (s : Setting) (w : ℕ) (m : Machine) where
       pub step-ready : (i : Instruction) → firstOf rows (s .features) w ≡ accept i → Ready (length (m .z)) (length (m .p)) (length (m .zt)) (s .vl) i
       unfolding allowedOf
       step-ready i e =
-          let b = both-yes (eqb (length (m .z)) 8192 && eqb (length (m .p)) 512) (eqb (length (m .zt)) 64) h in
-          let c = both-yes (eqb (length (m .z)) 8192) (eqb (length (m .p)) 512) (b .0) in
+          let b = both-yes (eqb (length (m .z)) vectorFile && eqb (length (m .p)) predicateFile) (eqb (length (m .zt)) tableFile) h in
+          let c = both-yes (eqb (length (m .z)) vectorFile) (eqb (length (m .p)) predicateFile) (b .0) in
           record {
-            vectors = eqb-true (length (m .z)) 8192 (c .0);
-            predicates = eqb-true (length (m .p)) 512 (c .1);
-            table = eqb-true (length (m .zt)) 64 (b .1);
+            vectors = eqb-true (length (m .z)) vectorFile (c .0);
+            predicates = eqb-true (length (m .p)) predicateFile (c .1);
+            table = eqb-true (length (m .zt)) tableFile (b .1);
             length = both-yes (lengthAllowed (s .vl)) (featuresAllowed (s .features)) a .0;
             range = read-in-range s i w (read-is (accept i) e);
           }

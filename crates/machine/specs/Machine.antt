@@ -3,6 +3,7 @@ use mathlib.Core.Bool.{Bool}
 use mathlib.Core.List.{List, [], _∷_}
 use Prim.Native.Nat.{ℕ, _+_, _-_, _/_, _%_, _^_}
 use lib.ListN.{getD}
+use Rattle.element.specs.Files.{tableFile}
 use Rattle.element.specs.Slots.{slot, setSlot}
 use Rattle.order.specs.Banks.{Register, change}
 use Rattle.machine.specs.declared.Scalars.{Scalars}
@@ -34,10 +35,10 @@ W k = record { bank = 3; at = k - 12 }
 
 -- by bank: how far its slots are apart, how much of a slot a word touches, and its file
 abbrev pub gap : ℕ → ℕ
-gap b = getD (256 ∷ 32 ∷ 64 ∷ 1 ∷ []) b 1
+gap b = getD (256 ∷ 32 ∷ tableFile ∷ 1 ∷ []) b 1
 
 abbrev pub slotUsed : ℕ → ℕ → ℕ
-slotUsed vl b = getD (vl / 8 ∷ vl / 64 ∷ 64 ∷ 1 ∷ []) b 1
+slotUsed vl b = getD (vl / 8 ∷ vl / 64 ∷ tableFile ∷ 1 ∷ []) b 1
 
 abbrev pub files : Machine → List (List ℕ)
 files m = m .z ∷ m .p ∷ m .zt ∷ (m .scalars .w12 ∷ m .scalars .w13 ∷ m .scalars .w14 ∷ m .scalars .w15 ∷ []) ∷ []

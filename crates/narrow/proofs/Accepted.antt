@@ -5,6 +5,7 @@ use Prim.Native.Nat.{ℕ}
 use lib.Dec.{eqb, leb, ltb}
 use borrow.Author.Tests.{eqb-true, ltb-true, leb-true}
 use Rattle.setting.specs.Allowed.{lengthAllowed}
+use Rattle.element.specs.Files.{vectorFile}
 use Rattle.element.specs.Size.{isResult}
 use Rattle.element.proofs.Tests.{both-yes}
 use Rattle.part.proofs.Lengths.{lengths-of}
@@ -23,13 +24,13 @@ module _ (z vl size shift zn zd : ℕ) where
 
     pub narrow-accepted : NarrowReady z vl size shift zn zd
     narrow-accepted =
-        let a = both-yes ((eqb z 8192 && lengthAllowed vl) && (ltb 0 shift && leb shift size)) (ltb zn 32 && ltb zd 32) rest in
-        let b = both-yes (eqb z 8192 && lengthAllowed vl) (ltb 0 shift && leb shift size) (a .0) in
-        let f = both-yes (eqb z 8192) (lengthAllowed vl) (b .0) in
+        let a = both-yes ((eqb z vectorFile && lengthAllowed vl) && (ltb 0 shift && leb shift size)) (ltb zn 32 && ltb zd 32) rest in
+        let b = both-yes (eqb z vectorFile && lengthAllowed vl) (ltb 0 shift && leb shift size) (a .0) in
+        let f = both-yes (eqb z vectorFile) (lengthAllowed vl) (b .0) in
         let n = both-yes (ltb 0 shift) (leb shift size) (b .1) in
         let r = both-yes (ltb zn 32) (ltb zd 32) (a .1) in
         record {
-          slots = eqb-true z 8192 (f .0);
+          slots = eqb-true z vectorFile (f .0);
           lengths = lengths-of vl (f .1);
           low = ltb-true 0 shift (n .0);
           high = leb-true shift size (n .1);

@@ -33,7 +33,7 @@ module _ {file vl s shift zn zd : ℕ} (op : NarrowReady file vl s shift zn zd) 
         slots = op .slots;
         room = omega arith;
         whole = whole;
-        width = width;
+        bytes = width;
         low = op .low;
         high = omega arith;
         from = op .from;

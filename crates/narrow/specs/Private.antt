@@ -6,7 +6,7 @@ use Rattle.element.specs.Files.{vectorFile}
 
 -- an element of w bytes
 pub record OneReady (x w shift : ℕ) : Type 0 where
-  pub width : Width w
+  pub bytes : Width w
   pub below : x < 2 ^ (8 * w)
   pub low : 1 ≤ shift
   pub high : shift ≤ 4 * w
@@ -16,7 +16,7 @@ pub record EachReady (from to n w shift : ℕ) : Type 0 where
   pub source : from ≡ n * w
   pub target : to ≡ n * w
   pub room : n * w ≤ 256
-  pub width : Width w
+  pub bytes : Width w
   pub low : 1 ≤ shift
   pub high : shift ≤ 4 * w
 
@@ -25,7 +25,7 @@ pub record ChunksReady (file n per w shift zn zd : ℕ) : Type 0 where
   pub slots : file ≡ vectorFile
   pub room : n ≤ 16
   pub whole : per * w ≡ 16
-  pub width : Width w
+  pub bytes : Width w
   pub low : 1 ≤ shift
   pub high : shift ≤ 4 * w
   pub from : zn < 32

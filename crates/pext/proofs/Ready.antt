@@ -7,6 +7,7 @@ use native.Mathlib.Omega.{arith}
 use lib.Dec.{eqb, leb, ltb}
 use borrow.Author.Tests.{eqb-true, leb-true, ltb-true, lt-ltb, eq-eqb}
 use Rattle.setting.specs.Allowed.{lengthAllowed}
+use Rattle.element.specs.Files.{predicateFile}
 use Rattle.element.specs.Size.{isSize}
 use Rattle.element.specs.Units.{sizeAt}
 use Rattle.element.proofs.Tests.{both-yes, one-yes}
@@ -16,7 +17,7 @@ use Rattle.pext.specs.Pext.{pextReady}
 use Rattle.pext.specs.Private.{Portion}
 
 pub record Ready (bytes vl log first portions pn pd : ℕ) : Type 0 where
-  pub file : bytes ≡ 512
+  pub file : bytes ≡ predicateFile
   pub allowed : lengthAllowed vl ≡ true
   pub sized : isSize (sizeAt log) ≡ true
   pub some : 0 < portions
@@ -30,14 +31,14 @@ unfolding pextReady
 ready-is bytes vl log first portions pn pd h =
     let size = isSize (sizeAt log) in
     let few = eqb portions 1 || eqb portions 2 in
-    let a = both-yes (eqb bytes 512 && lengthAllowed vl && size && few && leb (first + portions) 4) (ltb pn 16 && ltb pd 16) h in
-    let b = both-yes (eqb bytes 512 && lengthAllowed vl && size && few) (leb (first + portions) 4) (a .0) in
-    let d = both-yes (eqb bytes 512 && lengthAllowed vl && size) few (b .0) in
-    let e = both-yes (eqb bytes 512 && lengthAllowed vl) size (d .0) in
-    let f = both-yes (eqb bytes 512) (lengthAllowed vl) (e .0) in
+    let a = both-yes (eqb bytes predicateFile && lengthAllowed vl && size && few && leb (first + portions) 4) (ltb pn 16 && ltb pd 16) h in
+    let b = both-yes (eqb bytes predicateFile && lengthAllowed vl && size && few) (leb (first + portions) 4) (a .0) in
+    let d = both-yes (eqb bytes predicateFile && lengthAllowed vl && size) few (b .0) in
+    let e = both-yes (eqb bytes predicateFile && lengthAllowed vl) size (d .0) in
+    let f = both-yes (eqb bytes predicateFile) (lengthAllowed vl) (e .0) in
     let k = both-yes (ltb pn 16) (ltb pd 16) (a .1) in
     record {
-      file = eqb-true bytes 512 (f .0);
+      file = eqb-true bytes predicateFile (f .0);
       allowed = f .1;
       sized = e .1;
       some = ⊎-elim (λ s. omega (arith, eqb-true portions 1 s)) (λ s. omega (arith, eqb-true portions 2 s)) (one-yes (eqb portions 1) (eqb portions 2) (d .1));

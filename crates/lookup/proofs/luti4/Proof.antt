@@ -3,7 +3,7 @@ use mathlib.Core.Path.{sym}
 use Prim.Native.Nat.{_<_}
 use lib.ListN.{length}
 use Rattle.element.proofs.Tests.{said-no, said-yes}
-use Rattle.lookup.specs.Lookup.{segmentOf}
+use Rattle.lookup.specs.Lookup.{indexBits, destinations, segmentOf}
 use Rattle.lookup.specs.Calls.{luti4File}
 use Rattle.lookup.specs.Private.{LutiReady}
 use Rattle.lookup.proofs.Accepted.{luti4-accepted}
@@ -18,7 +18,7 @@ returns : tie.Need-returns
 unfolding luti4File
 returns c = let n = said-no (c .before .luti4-ready .ensures) (c .if1 .taken) in (sym n, rw n)
 
-accepted : (c : tie.Else1) → let a = c .before .before .before .before .args in LutiReady (length (a .z .now)) (length (a .zt .now)) (a .vl) 4 (a .size) 4 (segmentOf 4 (a .size) 4 (a .i1)) (a .zn) (a .first) (a .stride) × (a .i1 < 2)
+accepted : (c : tie.Else1) → let a = c .before .before .before .before .args in LutiReady (length (a .z .now)) (length (a .zt .now)) (a .vl) indexBits (a .size) destinations (segmentOf indexBits (a .size) destinations (a .i1)) (a .zn) (a .first) (a .stride) × (a .i1 < 2)
 accepted c = luti4-accepted _ _ _ _ _ _ _ _ (said-yes (c .before .luti4-ready .ensures) (c .if1 .left))
 
 luti4-file-requires : tie.Need-luti4-file-requires

@@ -4,7 +4,7 @@ use Prim.Native.Nat.{ℕ, _+_, _-_, _*_, _/_, _≤_}
 use native.Mathlib.Omega.{arith}
 use lib.ListN.{length, length-take, length-drop}
 use Rattle.element.proofs.Slots.{slot-length, part-length}
-use Rattle.lookup.specs.Lookup.{lutiFile}
+use Rattle.lookup.specs.Lookup.{indexBits, destinations, lutiFile}
 use Rattle.lookup.specs.Private.{Chunked}
 use Rattle.lookup.proofs.Places.{element-of, Turn, turn-at}
 use Rattle.lookup.proofs.Files.{room-is, turned}
@@ -14,7 +14,7 @@ use Rattle.lookup.proofs.table.four_destinations.Tie as tie
 
 abbrev Inv-loop : tie.InvT-loop
 Inv-loop z₀ zt vl size segment zn first stride n w each s high r₀ z r =
-    (r ≤ 4) × ((length z ≡ length z₀) × (z ≡ lutiFile 4 size vl 4 segment zn first stride zt z₀ r))
+    (r ≤ 4) × ((length z ≡ length z₀) × (z ≡ lutiFile indexBits size vl destinations segment zn first stride zt z₀ r))
 
 abbrev μ-loop : tie.MeasureT-loop
 μ-loop z₀ zt vl size segment zn first stride n w each s high r₀ z r = 4 - r
@@ -33,7 +33,7 @@ slot-of-requires : tie.Need-slot-of-requires Inv-loop μ-loop
 slot-of-requires c κs = omega arith
 
 raised-by-requires : tie.Need-raised-by-requires Inv-loop μ-loop
-raised-by-requires c κs = let p = c .before .before .before .before .before .pre in record { entries = p .entries; width = element-of (p .result) }
+raised-by-requires c κs = let p = c .before .before .before .before .before .pre in record { entries = p .entries; bytes = element-of (p .result) }
 
 loop-holds : tie.Need-loop-holds Inv-loop μ-loop
 unfolding lutiFile
@@ -91,7 +91,7 @@ look-by-requires c κs =
       record {
         entries = a .pre .entries;
         raised = c .before .before .before .before .before .before .raised-by .ensures;
-        width = element-of (a .pre .result);
+        bytes = element-of (a .pre .result);
         power = refl;
         whole =
             part-length 256 (a .args .vl / 8) (a .args .first + a .args .stride * l .r) (l .z) (omega arith)
@@ -128,7 +128,7 @@ returns : tie.Need-returns Inv-loop μ-loop
 returns c =
     let a = c .before .before .before .before .before .before .before .before .args in
     let l = c .before .loop in
-    let q : l .r ≡ 4 = omega arith in l .inv .1 .1 ∙ ap (lutiFile 4 (a .size) (a .vl) 4 (a .segment) (a .zn) (a .first) (a .stride) (a .zt .now) (a .z .now)) q
+    let q : l .r ≡ 4 = omega arith in l .inv .1 .1 ∙ ap (lutiFile indexBits (a .size) (a .vl) destinations (a .segment) (a .zn) (a .first) (a .stride) (a .zt .now) (a .z .now)) q
 
 pub four-destinations-spec : {M : Type 1} → statement M
 four-destinations-spec =

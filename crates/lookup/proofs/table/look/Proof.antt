@@ -9,6 +9,7 @@ use borrow.Author.Needs.{needs}
 use lib.ListN.{length, drop}
 use Rattle.element.specs.Contents.{elem, field, fill}
 use Rattle.element.proofs.Slots.{reach}
+use Rattle.lookup.specs.Lookup.{indexBits}
 use Rattle.lookup.proofs.Lookups.{sizes, taken-length, taken-looked}
 use Rattle.lookup.proofs.Chunks.{Chunks, chunks-of, chunk-bytes, whole-chunks, chunk-elements, chunk-within, chunk-again, chunks-done}
 use Rattle.lookup.proofs.table.look.Statement.{statement}
@@ -16,20 +17,20 @@ use Rattle.lookup.proofs.table.look.Tie as tie
 
 abbrev Inv-loop : tie.InvT-loop
 Inv-loop s zt high m w o₀ per n q₀ o q =
-    (q ≤ n) × ((length o ≡ length o₀) × (o ≡ fill (λ (e : ℕ). elem 4 (field 4 e s) zt) w (q * (32 / w * 2)) ++ drop (q * 64) o₀))
+    (q ≤ n) × ((length o ≡ length o₀) × (o ≡ fill (λ (e : ℕ). elem 4 (field indexBits e s) zt) w (q * (32 / w * 2)) ++ drop (q * 64) o₀))
 
 abbrev μ-loop : tie.MeasureT-loop
 μ-loop s zt high m w o₀ per n q₀ o q = n - q
 
 -- the chunks, at the loop's test
 chunks : (c : tie.At-loop Inv-loop μ-loop) → let a = c .before .before .before .before .before .args in Chunks (length (a .s .now)) (a .w) (length (a .s .now) / (32 / a .w))
-chunks c = chunks-of (length (c .before .before .before .before .before .args .s .now)) (c .before .before .before .before .before .pre .0 .width)
+chunks c = chunks-of (length (c .before .before .before .before .before .args .s .now)) (c .before .before .before .before .before .pre .0 .bytes)
 
 within : (c : tie.In-loop Inv-loop μ-loop) → let a = c .before .before .before .before .before .before .args in c .before .loop .q * (32 / a .w) + 32 / a .w ≤ length (a .s .now)
 within c = chunk-within _ (c .before .loop .q) (chunks (c .before)) (c .loop-test .taken)
 
 div-per : tie.Need-div-per Inv-loop μ-loop
-div-per c = let h = sizes (c .before .before .before .pre .0 .width) in omega arith
+div-per c = let h = sizes (c .before .before .before .pre .0 .bytes) in omega arith
 
 pairs-requires : tie.Need-pairs-requires Inv-loop μ-loop
 pairs-requires c κs = c .before .before .before .before .before .pre .0
@@ -41,7 +42,7 @@ returns : tie.Need-returns Inv-loop μ-loop
 returns c = c .before .before .pairs .ensures
 
 div-n : tie.Need-div-n Inv-loop μ-loop
-div-n c = let h = sizes (c .before .before .before .before .pre .0 .width) in omega arith
+div-n c = let h = sizes (c .before .before .before .before .pre .0 .bytes) in omega arith
 
 loop-holds : tie.Need-loop-holds Inv-loop μ-loop
 unfolding fill
@@ -85,9 +86,9 @@ pairs-requires-2 c κs =
     record {
       entries = a .pre .0 .entries;
       raised = a .pre .0 .raised;
-      width = a .pre .0 .width;
+      bytes = a .pre .0 .bytes;
       power = a .pre .0 .power;
-      whole = rw (taken-length (l .q * (32 / a .args .w)) (a .args .s .now) (reach (l .q * (32 / a .args .w)) (32 / a .args .w)) (within (c .before .before)), taken-length (l .q * 64) (l .o) (reach (l .q * 64) 64) (omega arith)) (sym (sizes (a .pre .0 .width) .chunk));
+      whole = rw (taken-length (l .q * (32 / a .args .w)) (a .args .s .now) (reach (l .q * (32 / a .args .w)) (32 / a .args .w)) (within (c .before .before)), taken-length (l .q * 64) (l .o) (reach (l .q * 64) 64) (omega arith)) (sym (sizes (a .pre .0 .bytes) .chunk));
     }
 
 add-q : tie.Need-add-q Inv-loop μ-loop
@@ -104,7 +105,7 @@ loop-again c =
       omega arith,
       (
         c .before .o2 .given .1 ∙ l .inv .1 .0,
-        chunk-again (λ (e : ℕ). elem 4 (field 4 e (a .args .s .now)) (a .args .zt .now)) (a .args .w) (p * 2) 64 (l .q) (a .args .o .now) (l .o) _ (chunk-elements (a .pre .0 .width)) (l .inv .1 .1)
+        chunk-again (λ (e : ℕ). elem 4 (field indexBits e (a .args .s .now)) (a .args .zt .now)) (a .args .w) (p * 2) 64 (l .q) (a .args .o .now) (l .o) _ (chunk-elements (a .pre .0 .bytes)) (l .inv .1 .1)
             (c .before .before .pairs2 .ensures ∙ taken-looked (a .args .w) (l .q * p) (a .args .s .now) (a .args .zt .now) (reach (l .q * p) p) (mul-assoc (l .q) p 2) (within (c .before .before .before .before .before))),
       ),
     )
@@ -120,12 +121,12 @@ returns-2 c =
     let p = 32 / a .args .w in
     let s = length (a .args .s .now) in
     let n = s / p in
-    let f : ℕ → ℕ = λ (e : ℕ). elem 4 (field 4 e (a .args .s .now)) (a .args .zt .now) in
+    let f : ℕ → ℕ = λ (e : ℕ). elem 4 (field indexBits e (a .args .s .now)) (a .args .zt .now) in
     let m : s % p ≡ 0 = ⊎-elim (λ h. absurd (omega (arith, h, b .if1 .left))) (λ e. e) (a .pre .1) in
     let d : n * p ≡ s = whole-chunks s p m in
     let q : l .q ≡ n = omega arith in
     let t : n * (p * 2) ≡ s * 2 = sym (mul-assoc n p 2) ∙ ap (λ (x : ℕ). x * 2) d in
-    let r : n * 64 ≡ s * (2 * a .args .w) = sym (chunk-bytes n (a .pre .0 .width)) ∙ ap (λ (x : ℕ). x * (2 * a .args .w)) d in
+    let r : n * 64 ≡ s * (2 * a .args .w) = sym (chunk-bytes n (a .pre .0 .bytes)) ∙ ap (λ (x : ℕ). x * (2 * a .args .w)) d in
     chunks-done f (a .args .w) (n * (p * 2)) (n * 64) (a .args .o .now) (l .o) (omega (arith, a .pre .0 .whole)) (l .inv .1 .1 ∙ rw q) ∙ ap (fill f (a .args .w)) t
 
 pub look-spec : {M : Type 1} → statement M

@@ -12,11 +12,11 @@ one : (c : tie.Then1) → let a = c .before .before .before .args in segmentOf 4
 one c = rw (c .if1 .taken) (omega arith)
 
 -- and of 32 bits two
-larger : (c : tie.Else1) → c .before .before .before .args .size ≡ 32
-larger c = ⊎-elim (λ e. absurd (c .if1 .left e)) (λ e. e) (c .before .before .before .pre .0 .result)
+size-32 : (c : tie.Else1) → c .before .before .before .args .size ≡ 32
+size-32 c = ⊎-elim (λ e. absurd (c .if1 .left e)) (λ e. e) (c .before .before .before .pre .0 .result)
 
 two : (c : tie.Else1) → let a = c .before .before .before .args in segmentOf 4 (a .size) 4 (a .i1) ≡ a .i1
-two c = rw (larger c) (omega arith)
+two c = rw (size-32 c) (omega arith)
 
 four-destinations-requires : tie.Need-four-destinations-requires
 four-destinations-requires c κs = rw (one (c .before), c .before .if1 .taken) at (c .before .before .before .before .pre .0)
@@ -28,13 +28,13 @@ returns : tie.Need-returns
 returns c = rw (one (c .before .before .before .before), c .before .before .before .before .if1 .taken) (c .before .before .four-destinations .ensures)
 
 four-destinations-requires-2 : tie.Need-four-destinations-requires-2
-four-destinations-requires-2 c κs = rw (two (c .before), larger (c .before)) at (c .before .before .before .before .pre .0)
+four-destinations-requires-2 c κs = rw (two (c .before), size-32 (c .before)) at (c .before .before .before .before .pre .0)
 
 same-length-2 : tie.Need-same-length-2
 same-length-2 c = search needs
 
 returns-2 : tie.Need-returns-2
-returns-2 c = rw (two (c .before .before .before .before), larger (c .before .before .before .before)) (c .before .before .four-destinations2 .ensures)
+returns-2 c = rw (two (c .before .before .before .before), size-32 (c .before .before .before .before)) (c .before .before .four-destinations2 .ensures)
 
 pub luti4-file-spec : {M : Type 1} → statement M
 luti4-file-spec =

@@ -8,13 +8,14 @@ use borrow.Author.Needs.{needs}
 use lib.ListN.{length, drop, getD}
 use Rattle.element.specs.Contents.{elem, field, fill}
 use Rattle.element.proofs.Filling.{turn, chunk, chunked}
+use Rattle.lookup.specs.Lookup.{indexBits}
 use Rattle.lookup.proofs.Lookups.{sizes, sum-below, pair-stored}
 use Rattle.lookup.proofs.table.pairs.Statement.{statement}
 use Rattle.lookup.proofs.table.pairs.Tie as tie
 
 abbrev Inv-loop : tie.InvT-loop
 Inv-loop s zt high m w o₀ q₀ o q =
-    (q ≤ length s) × ((length o ≡ length o₀) × (o ≡ fill (λ (e : ℕ). elem 4 (field 4 e s) zt) w (q * 2) ++ drop (q * (2 * w)) o₀))
+    (q ≤ length s) × ((length o ≡ length o₀) × (o ≡ fill (λ (e : ℕ). elem 4 (field indexBits e s) zt) w (q * 2) ++ drop (q * (2 * w)) o₀))
 
 abbrev μ-loop : tie.MeasureT-loop
 μ-loop s zt high m w o₀ q₀ o q = length s - q
@@ -59,7 +60,7 @@ entry-requires : tie.Need-entry-requires Inv-loop μ-loop
 entry-requires c κs = record { entries = c .before .before .before .before .before .before .pre .entries; inside = omega arith }
 
 rem-r : tie.Need-rem-r Inv-loop μ-loop
-rem-r c = let p = c .before .before .before .before .before .before .before .pre in let h = sizes (p .width) in omega arith
+rem-r c = let p = c .before .before .before .before .before .before .before .pre in let h = sizes (p .bytes) in omega arith
 
 cast-r : tie.Need-cast-r Inv-loop μ-loop
 cast-r c = omega (arith, byte (c .before))
@@ -73,7 +74,7 @@ element-copy-out-r c = omega (arith, byte (c .before))
 add-r : tie.Need-add-r Inv-loop μ-loop
 add-r c =
     let a = c .before .before .before .before .before .before .before .before in
-    let h = sizes (a .pre .width) in
+    let h = sizes (a .pre .bytes) in
     let b = byte (c .before .before) in
     record { fits = sum-below (a .args .m) (c .before .entry .result) _ (a .args .zt .now) (a .args .high .now) (a .pre .raised) (omega arith) (omega arith) (omega arith) }
 
@@ -103,7 +104,7 @@ loop-again c =
       (
         c .before .o .given .1 ∙ l .inv .1 .0,
         chunk
-            (λ (e : ℕ). elem 4 (field 4 e (a .args .s .now)) (a .args .zt .now))
+            (λ (e : ℕ). elem 4 (field indexBits e (a .args .s .now)) (a .args .zt .now))
             (a .args .w)
             2
             (l .q)
@@ -111,7 +112,7 @@ loop-again c =
             (l .o)
             _
             (l .inv .1 .1)
-            (pair-stored (a .args .m) (a .args .w) (l .q) (length (a .args .s .now)) (a .args .s .now) (a .args .zt .now) (l .o) (c .before .before .before .before .before .before .before .loop-test .taken) (l .inv .1 .0 ∙ a .pre .whole) (a .pre .width) (a .pre .power) (byte (c .before .before .before .before .before .before)) (c .before .before .before .before .before .entry .ensures .0) (high-is (c .before .before .before .before .before)) (c .before .before .write .ensures)),
+            (pair-stored (a .args .m) (a .args .w) (l .q) (length (a .args .s .now)) (a .args .s .now) (a .args .zt .now) (l .o) (c .before .before .before .before .before .before .before .loop-test .taken) (l .inv .1 .0 ∙ a .pre .whole) (a .pre .bytes) (a .pre .power) (byte (c .before .before .before .before .before .before)) (c .before .before .before .before .before .entry .ensures .0) (high-is (c .before .before .before .before .before)) (c .before .before .write .ensures)),
       ),
     )
 
@@ -122,7 +123,7 @@ returns : tie.Need-returns Inv-loop μ-loop
 returns c =
     let a = c .before .before .before .before .before in
     let l = c .before .loop in
-    chunked (λ (e : ℕ). elem 4 (field 4 e (a .args .s .now)) (a .args .zt .now)) (a .args .w) 2 (l .q) (length (a .args .s .now)) (a .args .o .now) (l .o) (l .inv .0) (c .loop-test .left) (a .pre .whole) (l .inv .1 .1)
+    chunked (λ (e : ℕ). elem 4 (field indexBits e (a .args .s .now)) (a .args .zt .now)) (a .args .w) 2 (l .q) (length (a .args .s .now)) (a .args .o .now) (l .o) (l .inv .0) (c .loop-test .left) (a .pre .whole) (l .inv .1 .1)
 
 pub pairs-spec : {M : Type 1} → statement M
 pairs-spec =

@@ -14,7 +14,7 @@ raised-requires-2 : tie.Need-raised-requires-2
 raised-requires-2 c κs = search needs
 
 returns-2 : tie.Need-returns-2
-returns-2 c = rw (second (c .before .before .before .pre .width) (c .before .if1 .left)) (c .raised2 .ensures)
+returns-2 c = rw (second (c .before .before .before .pre .bytes) (c .before .if1 .left)) (c .raised2 .ensures)
 
 pub raised-by-spec : {M : Type 1} → statement M
 raised-by-spec = tie.close (tie.spec raised-requires returns raised-requires-2 returns-2)

@@ -51,7 +51,7 @@ narrow-one-requires c κs =
     let a = c .before .before .before .before .before .before in
     let l = c .before .before .before .loop in
     record {
-      width = a .pre .width;
+      bytes = a .pre .bytes;
       below = element-below (l .i) (a .args .n) (a .args .w) (a .args .s .now) (c .before .before .loop-test .taken) (a .pre .source) (c .read .ensures);
       low = a .pre .low;
       high = a .pre .high;
@@ -95,8 +95,8 @@ loop-again c =
             t
             (l .inv .1 .0 ∙ a .pre .target)
             (l .inv .1 .1)
-            (c .before .before .before .before .narrow-one .ensures ∙ ap (narrowed (4 * a .args .w) (a .args .shift)) (element-read (l .i) (a .args .n) (a .args .w) (a .args .s .now) t (a .pre .source) (a .pre .width) (c .before .before .before .before .before .read .ensures)))
-            (element-stored (l .i) (a .args .n) (a .args .w) (l .o) t (l .inv .1 .0 ∙ a .pre .target) (a .pre .width) _ (c .before .before .write .ensures)),
+            (c .before .before .before .before .narrow-one .ensures ∙ ap (narrowed (4 * a .args .w) (a .args .shift)) (element-read (l .i) (a .args .n) (a .args .w) (a .args .s .now) t (a .pre .source) (a .pre .bytes) (c .before .before .before .before .before .read .ensures)))
+            (element-stored (l .i) (a .args .n) (a .args .w) (l .o) t (l .inv .1 .0 ∙ a .pre .target) (a .pre .bytes) _ (c .before .before .write .ensures)),
       ),
     )
 

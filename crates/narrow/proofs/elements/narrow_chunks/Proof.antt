@@ -113,7 +113,7 @@ narrow-all-requires c κs =
       source = held-length (c .before .before .before) ∙ sym (a .pre .whole);
       target = chunk-length (256 * a .args .zd + l .i * 16) (l .z) (omega arith) ∙ sym (a .pre .whole);
       room = omega arith;
-      width = a .pre .width;
+      bytes = a .pre .bytes;
       low = a .pre .low;
       high = a .pre .high;
     }

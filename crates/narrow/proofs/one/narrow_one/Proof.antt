@@ -33,7 +33,7 @@ returns-2 : tie.Need-returns-2
 returns-2 c = c .narrow-one32 .ensures ∙ rw (c .before .if2 .taken)
 
 eight : (c : tie.Else2) → c .before .before .args .w ≡ 8
-eight c = ⊎-elim (λ e. absurd (c .before .if1 .left e)) (⊎-elim (λ e. absurd (c .if2 .left e)) (λ e. e)) (c .before .before .pre .width)
+eight c = ⊎-elim (λ e. absurd (c .before .if1 .left e)) (⊎-elim (λ e. absurd (c .if2 .left e)) (λ e. e)) (c .before .before .pre .bytes)
 
 narrow-one64-requires : tie.Need-narrow-one64-requires
 narrow-one64-requires c κs = let e = eight c in search needs
