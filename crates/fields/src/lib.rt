@@ -8,6 +8,7 @@ ghost use Rattle.encoding.specs.Rows.{rows};
 ghost use Rattle.encoding.specs.Decode.{readAt};
 ghost use Rattle.encoding.specs.declared.Instruction.the-variants.{Pext1, Pext2, Luti4c, Luti4s, Uqrshrnb};
 ghost use Rattle.fields.specs.Operands.{dupAs};
+
 // The fields of every form but DUP, the size by its log too; the immediate is a portion, i1 or a shift.
 pub struct Operands {
     pub size: u32,
