@@ -1,4 +1,4 @@
--- A row by numbers of sixty-four digits: their bytes are the row's, by a split of the digits into bytes.
+-- Packed bits by numbers of sixty-four digits: the numbers' bytes are the packed ones, by a split of the digits into bytes.
 use mathlib.Core.Path.{_≡_, refl, sym, ap, ap₂, _∙_}
 use mathlib.Core.Bool.{Bool}
 use mathlib.Core.List.{List, _∷_, _++_, append-assoc}
@@ -43,7 +43,7 @@ module _ (g : ℕ → Bool) where
       let moved = same (λ j. octet g (k + 1 + j)) (λ j. octet g (k + (1 + j))) 1 n (λ j l. let e : k + 1 + j ≡ k + (1 + j) = omega arith in rw e) in
       ap₂ (λ (b : ℕ) (l : List ℕ). b ∷ l) first (ap (bytes n) rest ∙ octets n (k + 1) r ∙ moved) ∙ sym (fill-more f 1 1 n) ∙ ap (fill f 1) one
 
-  -- and so of the first sixty-four, for a row of few bytes
+  -- and so of the first sixty-four, for few bytes
   pub few-bytes : (n : ℕ) → n ≤ 8 → bytes n (gather g 0 64) ≡ packed g n
   unfolding packed
   few-bytes n h =

@@ -1,4 +1,4 @@
--- The bits of a row of the table, from the bit of each register in it: one after the other, the last alone.
+-- The bits of a page's registers, from the bit of each: one after the other, the last alone.
 use mathlib.Core.Path.{_≡_, refl, sym, _∙_, ap₂}
 use mathlib.Core.List.{List, [], _∷_}
 use Prim.Native.Nat.{ℕ}
@@ -22,6 +22,6 @@ pub table-bit : 281474976710656 ≡ bitsOf (ZT0 ∷ [])
 unfolding bitsOf registerBit
 table-bit = refl
 
--- a row, of an instruction that is known
+-- both lists of a page, of an instruction that is known
 pub touch-is : {i j : Instruction} {t : Touch} {x y : ℕ} → i ≡ j → t ≡ joined x y → x ≡ bitsOf (effectOf j .reads) → y ≡ bitsOf (effectOf j .writes) → t ≡ touchBy (effectOf i .reads) (effectOf i .writes)
 touch-is e t x y = t ∙ ap₂ joined x y ∙ rw (sym e)

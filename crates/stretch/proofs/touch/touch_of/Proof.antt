@@ -1,4 +1,4 @@
--- `touch_of` meets its contract: in each arm the instruction is known, its fields are in range, and the bits are those of its row.
+-- `touch_of` meets its contract: in each arm the instruction is known, its fields are in range, and the bits are those of its page.
 use native.Mathlib.Omega.{arith}
 use Rattle.encoding.proofs.InRange.{dup-ranges, known-range}
 use Rattle.stretch.proofs.Known.{known-as}
