@@ -2,7 +2,8 @@
 use mathlib.Core.Path.{_≡_, sym, ap, ap₂, _∙_}
 use mathlib.Core.Bool.{true, false, false≢true, _||_}
 use mathlib.Core.List.{List, [], _∷_, map}
-use Prim.Native.Nat.{ℕ, _^_, _<_, _≤_}
+use Prim.Native.Nat.{ℕ, zero, suc, _^_, _<_, _≤_}
+use native.Mathlib.Omega.{arith}
 use lib.Dec.{T, eqb, eqb→eq}
 use lib.Bits.{bitAnd}
 use lib.ListN.{length, getD, List·getD-map, List·getD-eq-default}
@@ -18,6 +19,15 @@ use Rattle.encoding.specs.Places.{layoutAt, featuresAt, hasLayout}
 use Rattle.encoding.specs.Private.{featureBits}
 use Rattle.encoding.proofs.LayoutLaws.{sound, maskOf, matches-masked, masked-matches}
 use Rattle.encoding.proofs.Apart.{decide}
+
+-- ---- the arm of a match behind those of the rows: a place that is none of them is at least their number; omega splits no more than six
+abbrev pub NoneBelow : ℕ → ℕ → Type 0
+NoneBelow zero k = Unit {0}
+NoneBelow (suc n) k = NoneBelow n k × (k ≡ n → ⊥)
+
+pub none-below-at-least : (n k : ℕ) → NoneBelow n k → n ≤ k
+none-below-at-least zero k h = omega arith
+none-below-at-least (suc n) k h = let l = none-below-at-least n k (h .0) in let e = h .1 in omega arith
 
 -- ---- layouts
 abbrev pub layouts : List (List Piece)

@@ -1,6 +1,8 @@
 -- `step_in_run` meets its contract: in each arm the row is known, and its word leaves what a step does.
 use mathlib.Core.Path.{refl, sym, _∙_}
-use native.Mathlib.Omega.{arith}
+use lib.ListN.{length}
+use Rattle.encoding.specs.Rows.{rows}
+use Rattle.encoding.proofs.Columns.{none-below-at-least}
 use Rattle.machine.proofs.Forms.{no-row}
 use borrow.Author.Needs.{needs}
 use Rattle.interpreter.proofs.step_in_run.Statement.{statement}
@@ -64,7 +66,7 @@ returns-6 : tie.Need-returns-6
 returns-6 c = let b = c .before .before .before .before in c .before .before .uqrshrnb .ensures _ _ _ refl (record { checked = b .before .before .before .before .before .pre; place = sym (b .match .keys6) ∙ b .before .place .ensures })
 
 returns-7 : tie.Need-returns-7
-returns-7 c = no-row _ _ (c .before .place .result) _ (record { checked = c .before .before .before .before .before .pre; place = c .before .place .ensures }) (omega arith)
+returns-7 c = no-row _ _ (c .before .place .result) _ (record { checked = c .before .before .before .before .before .pre; place = c .before .place .ensures }) (none-below-at-least (length rows) (c .before .place .result) (c .match .rest))
 
 pub step-in-run-spec : {M : Type 1} → statement M
 step-in-run-spec =

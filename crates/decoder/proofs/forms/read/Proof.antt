@@ -1,8 +1,9 @@
 -- `read` meets its contract: in each arm the row is known, and its fields are the instruction's.
 use mathlib.Core.Path.{sym, _∙_}
-use native.Mathlib.Omega.{arith}
+use lib.ListN.{length}
 use Rattle.encoding.specs.Rows.{rows}
 use Rattle.encoding.proofs.Choice.{read-past}
+use Rattle.encoding.proofs.Columns.{none-below-at-least}
 use borrow.Author.Needs.{needs}
 use Rattle.decoder.proofs.forms.read.Statement.{statement}
 use Rattle.decoder.proofs.forms.read.Tie as tie
@@ -62,7 +63,7 @@ returns-6 : tie.Need-returns-6
 returns-6 c = rw (c .before .before .match .keys6) (c .uqrshrnb2 .ensures ∙ c .before .uqrshrnb .ensures .0)
 
 returns-7 : tie.Need-returns-7
-returns-7 c = sym (read-past rows (c .before .args .place) _ (omega arith))
+returns-7 c = sym (read-past rows (c .before .args .place) _ (none-below-at-least (length rows) (c .before .args .place) (c .match .rest)))
 
 pub read-spec : {M : Type 1} → statement M
 read-spec =
