@@ -14,20 +14,20 @@ use Rattle.element.proofs.Slots.{slot-part}
 use Rattle.counter.proofs.Lengths.{length-is}
 use Rattle.console.specs.Parts.{partOf}
 
--- a slot that has room for n bytes at every VL allowed lies in the file
-pub inside : (slots size n vl k l : ℕ) → (lengthAllowed vl && ltb k slots && eqb l (slots * size)) ≡ true → (vl ≤ 2048 → n ≤ size) → size * k + n ≤ l
-inside slots size n vl k l h room =
-    let a = both-yes (lengthAllowed vl && ltb k slots) (eqb l (slots * size)) h in
+-- a slot that has room for n bytes at every VL allowed lies in the file, which is its slots
+pub inside : (whole slots size n vl k l : ℕ) → whole ≡ slots * size → (lengthAllowed vl && ltb k slots && eqb l whole) ≡ true → (vl ≤ 2048 → n ≤ size) → size * k + n ≤ l
+inside whole slots size n vl k l e h room =
+    let a = both-yes (lengthAllowed vl && ltb k slots) (eqb l whole) h in
     let b = both-yes (lengthAllowed vl) (ltb k slots) (a .0) in
     let below = ltb-true k slots (b .1) in
     let next : size * (k + 1) ≤ size * slots = mul-le-mul-left size (omega (arith, below)) in
-    omega (arith, room (length-is vl (b .0) .most), next, mul-add size k 1, mul-comm slots size, eqb-true l (slots * size) (a .1))
+    omega (arith, room (length-is vl (b .0) .most), next, mul-add size k 1, mul-comm slots size, e, eqb-true l whole (a .1))
 
-module _ (slots size n vl k : ℕ) (file : List ℕ) where
-  pub refused-part : (lengthAllowed vl && ltb k slots && eqb (length file) (slots * size)) ≡ false → [] ≡ partOf slots size n vl k file
+module _ (whole slots size n vl k : ℕ) (file : List ℕ) where
+  pub refused-part : (lengthAllowed vl && ltb k slots && eqb (length file) whole) ≡ false → [] ≡ partOf whole slots size n vl k file
   unfolding partOf
   refused-part h = rw h
 
-  pub given-part : (lengthAllowed vl && ltb k slots && eqb (length file) (slots * size)) ≡ true → (vl ≤ 2048 → n ≤ size) → take (size * k + n - size * k) (drop (size * k) file) ≡ partOf slots size n vl k file
+  pub given-part : whole ≡ slots * size → (lengthAllowed vl && ltb k slots && eqb (length file) whole) ≡ true → (vl ≤ 2048 → n ≤ size) → take (size * k + n - size * k) (drop (size * k) file) ≡ partOf whole slots size n vl k file
   unfolding partOf
-  given-part h room = rw h (slot-part size n k file (inside slots size n vl k (length file) h room))
+  given-part e h room = rw h (slot-part size n k file (inside whole slots size n vl k (length file) e h room))

@@ -1,4 +1,4 @@
--- The code's table has the definition's columns: each by a test that is computed over the rows, and a law that says what one comparison of bits tells.
+-- The code's table has the definition's columns: each by a test that is computed over the rows, and a law that says what one comparison of bits tells. Behind the rows' places there is none: by recursion on their number.
 use mathlib.Core.Path.{_≡_, sym, ap, ap₂, _∙_}
 use mathlib.Core.Bool.{true, false, false≢true, _||_}
 use mathlib.Core.List.{List, [], _∷_, map}

@@ -1,6 +1,8 @@
 -- `predicate` meets its contract: the part that is returned is the slot, by the laws over any slots, at 16 slots of 32 bytes.
+use mathlib.Core.Path.{refl}
 use native.Mathlib.Omega.{arith}
 use borrow.Author.Needs.{needs}
+use Rattle.element.specs.Files.{predicateFile}
 use Rattle.element.proofs.Tests.{said-no, said-yes}
 use Rattle.console.proofs.Asked.{refused-part, inside, given-part}
 use Rattle.console.proofs.predicate.Statement.{statement}
@@ -13,7 +15,7 @@ slice-aggregate-result : tie.Need-slice-aggregate-result
 slice-aggregate-result c = search needs
 
 returns : tie.Need-returns
-returns c = refused-part 16 32 _ _ _ _ (said-no (c .before .before .answered .ensures) (c .before .if1 .taken))
+returns c = refused-part predicateFile 16 32 _ _ _ _ (said-no (c .before .before .answered .ensures) (c .before .if1 .taken))
 
 mul-at : tie.Need-mul-at
 mul-at c = search needs
@@ -28,10 +30,10 @@ part-result-start : tie.Need-part-result-start
 part-result-start c = search needs
 
 part-result-end : tie.Need-part-result-end
-part-result-end c = inside 16 32 _ (c .before .before .before .args .vl) _ _ (said-yes (c .before .answered .ensures) (c .if1 .left)) (λ h. omega (arith, h))
+part-result-end c = inside predicateFile 16 32 _ (c .before .before .before .args .vl) _ _ refl (said-yes (c .before .answered .ensures) (c .if1 .left)) (λ h. omega (arith, h))
 
 returns-2 : tie.Need-returns-2
-returns-2 c = given-part 16 32 _ _ _ _ (said-yes (c .before .before .answered .ensures) (c .before .if1 .left)) (λ h. omega (arith, h))
+returns-2 c = given-part predicateFile 16 32 _ _ _ _ refl (said-yes (c .before .before .answered .ensures) (c .before .if1 .left)) (λ h. omega (arith, h))
 
 pub predicate-spec : {M : Type 1} → statement M
 predicate-spec =
