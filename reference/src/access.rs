@@ -26,7 +26,7 @@ pub fn needed(form: Form, setting: Setting) -> Flags {
         Form::Pext1 | Form::Pext2 if setting.has(SVE2P1) => V,
         Form::Pext1 | Form::Pext2 => S,
         // V also where the feature is only SME: document 01 says so.
-        Form::Dup | Form::Uqrshrnb => V,
+        Form::Dup | Form::Narrow => V,
         Form::Luti4c | Form::Luti4s => S_AND_T,
     }
 }

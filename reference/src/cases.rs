@@ -10,7 +10,7 @@ use crate::roles::{
     PREDICATE_FORMS, PREDICATES_READ, PREDICATES_WRITTEN, Role, VECTOR_FORMS, VECTORS_READ,
     VECTORS_WRITTEN, apart, word_with,
 };
-use crate::samples::matching_word;
+use crate::samples::{matching_word, narrow_word};
 use crate::setting::{ALL_FEATURES, Setting, VECTOR_LENGTHS};
 use crate::start::Start;
 use crate::stretches::{
@@ -47,6 +47,9 @@ pub fn generate(random: &mut Random) -> Vec<Case> {
     list.one_register_in_two_roles();
     list.readers_of_one_register();
     list.copies();
+    list.interleaved();
+    list.narrowed_again();
+    list.all_sixteen();
     list.every_order();
     list.any_stretches();
     list.long_stretches();
@@ -176,11 +179,88 @@ impl List<'_> {
         }
     }
 
+    /// For each pair of B and T words, at every size: the halves of two
+    /// registers side by side in a third, and a word that has no part in it.
+    /// The other way around B would clear what T has put there.
+    fn interleaved(&mut self) {
+        for kind in 0..8 {
+            for size in [8, 16, 32] {
+                let shift = 1 + self.random.below(size);
+                let [zn, zm, zd, other] = self.registers_apart();
+                let bottom = family_word(2 * kind, [size, shift, zn, zd]);
+                let top = family_word(2 * kind + 1, [size, shift, zm, zd]);
+                let stranger = self.narrowing([size, shift, zn, other]);
+                let start = self.start();
+                self.add(
+                    start,
+                    vec![bottom, stranger, top],
+                    &[vec![1, 0, 2], vec![0, 2, 1]],
+                    &[vec![2, 1, 0], vec![2, 0, 1]],
+                );
+            }
+        }
+    }
+
+    /// A register narrowed in place and again in place, then read, for each
+    /// of the sixteen; the reader may not come earlier.
+    fn narrowed_again(&mut self) {
+        for bits in 0..16 {
+            let size = self.random.pick(&[8, 16, 32]);
+            let shift = 1 + self.random.below(size);
+            let [zn, _, zd, _] = self.registers_apart();
+            let in_place = family_word(bits, [size, shift, zn, zn]);
+            let again = self.narrowing([size, 1, zn, zn]);
+            let reader = self.narrowing([size, size, zn, zd]);
+            let start = self.start();
+            self.add(
+                start,
+                vec![in_place, again, reader],
+                &[vec![0, 1, 2]],
+                &[vec![1, 0, 2], vec![0, 2, 1], vec![2, 0, 1]],
+            );
+            let start = self.start();
+            self.add(start, vec![in_place; 2], &[vec![0, 1]], &[vec![1, 0]]);
+        }
+    }
+
+    /// All sixteen in one stretch: from one register into sixteen others, from
+    /// sixteen into one, and as a chain.
+    fn all_sixteen(&mut self) {
+        for vl in VECTOR_LENGTHS {
+            let size = self.random.pick(&[8, 16, 32]);
+            let apart: Vec<u32> = (0..16)
+                .map(|bits| family_word(bits, [size, size, 31, bits]))
+                .collect();
+            let into_one: Vec<u32> = (0..16)
+                .map(|bits| family_word(bits, [size, 1, bits, 31]))
+                .collect();
+            let chain: Vec<u32> = (0..16)
+                .map(|bits| family_word(bits, [size, 1, bits, bits + 1]))
+                .collect();
+            for words in [apart, into_one, chain] {
+                let mut start = self.start();
+                start.setting.vl = vl;
+                self.add_any_orders(start, words);
+            }
+        }
+    }
+
+    /// Any of the sixteen, with size, shift, Zn and Zd.
+    fn narrowing(&mut self, fields: [u32; 4]) -> u32 {
+        family_word(self.random.below(16), fields)
+    }
+
+    /// Z registers of which no two are one.
+    fn registers_apart(&mut self) -> [u32; 4] {
+        let first = self.random.below(32);
+        [0, 9, 14, 27].map(|distance| (first + distance) % 32)
+    }
+
     /// All twenty-four orders of four words: where no two conflict, where all
     /// do, where they are two pairs, and of any words.
     fn every_order(&mut self) {
-        let free: Vec<u32> = (0..4).map(|zd| 0x4528_3800 | 30 << 5 | zd).collect();
-        let all: Vec<u32> = (0..4).map(|zn| 0x4528_3800 | zn << 5 | 30).collect();
+        let free: Vec<u32> = (0..4).map(|zd| self.narrowing([8, 8, 30, zd])).collect();
+        let all: Vec<u32> = (0..4).map(|zn| self.narrowing([8, 8, zn, 30])).collect();
         // P1 is written and then read, Z1 is read and written and then written.
         let pairs = vec![0x2520_7011, 0x4528_3821, 0x252c_4020, 0xc08a_9000];
         let any = stretch_of(self.random, &Form::ALL, 4);
@@ -242,6 +322,11 @@ impl List<'_> {
             self.add_any_orders(start, words);
         }
     }
+}
+
+/// The narrowing word with these four bits and size, shift, Zn and Zd.
+fn family_word(bits: u32, [size, shift, zn, zd]: [u32; 4]) -> u32 {
+    narrow_word(bits, 2 * size - shift, zn, zd)
 }
 
 fn orders_of_four() -> Vec<Vec<usize>> {

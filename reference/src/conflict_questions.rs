@@ -25,6 +25,8 @@ pub fn generate(seed: u64) -> Vec<Question> {
     list.readers_of_one_register();
     list.same_number_in_two_files();
     list.copies();
+    list.family();
+    list.narrowing_beside_lookups();
     list.any_words_of_two_forms();
     list.every_feature_number();
     list.lengths_not_allowed();
@@ -140,16 +142,16 @@ impl List {
         match form {
             Form::Pext1 | Form::Pext2 => fields[3] = register,
             Form::Dup => fields[3..].fill(register),
-            Form::Luti4c | Form::Luti4s | Form::Uqrshrnb => fields[2] = register,
+            Form::Luti4c | Form::Luti4s => fields[2] = register,
+            Form::Narrow => fields[3..5].fill(register),
         }
         match form {
             Form::Pext1 | Form::Pext2 if register >= 8 => fields[2] = register,
             Form::Luti4c => fields[3] = register / 4 * 4,
             Form::Luti4s => fields[3] = register % 4,
-            Form::Uqrshrnb => fields[3] = register,
-            _ => {}
+            Form::Pext1 | Form::Pext2 | Form::Dup | Form::Narrow => {}
         }
-        encode(FULL, Instruction::from_fields(form, fields)).expect("the fields are in range")
+        word_of(form, fields)
     }
 
     /// A word beside itself, also where it cannot be read.
@@ -164,6 +166,62 @@ impl List {
         for word in PRINTED_WORDS {
             self.add(FULL, word, word);
         }
+    }
+
+    /// Any two of the sixteen: into one register, from the other's result,
+    /// from one source, and with nothing in common.
+    fn family(&mut self) {
+        for a in 0..16 {
+            for b in a..16 {
+                let [w, x, y, z] = self.four_registers();
+                for (first, second) in [
+                    ([w, x], [y, x]),
+                    ([w, x], [x, y]),
+                    ([x, w], [y, x]),
+                    ([w, x], [w, y]),
+                    ([w, x], [y, z]),
+                ] {
+                    let setting = self.all_features();
+                    let first = self.narrowing(a, first);
+                    let second = self.narrowing(b, second);
+                    self.add(setting, first, second);
+                }
+            }
+        }
+    }
+
+    /// A narrowing word's Zd written or read by a lookup, its Zn written or
+    /// read by one, and nothing in common.
+    fn narrowing_beside_lookups(&mut self) {
+        for bits in 0..16 {
+            for form in [Form::Luti4c, Form::Luti4s] {
+                // Among the lookup's four: Z8 to Z11, or Z1, Z5, Z9 and Z13.
+                let (first, step) = if form == Form::Luti4c { (8, 1) } else { (1, 4) };
+                let among = first + step * self.random.below(4);
+                for [zn, zd] in [[20, among], [20, 24], [among, 20], [24, 20], [20, 21]] {
+                    let setting = self.all_features();
+                    let mut fields = samples::fields_in_range(&mut self.random, form);
+                    fields[2..4].copy_from_slice(&[24, first]);
+                    let lookup = word_of(form, fields);
+                    let narrow = self.narrowing(bits, [zn, zd]);
+                    self.add(setting, narrow, lookup);
+                }
+            }
+        }
+    }
+
+    /// Z registers of which no two are one.
+    fn four_registers(&mut self) -> [u32; 4] {
+        let first = self.random.below(32);
+        [0, 7, 13, 22].map(|distance| (first + distance) % 32)
+    }
+
+    /// Any size and shift, from and to these registers.
+    fn narrowing(&mut self, bits: u32, registers: [u32; 2]) -> u32 {
+        let mut fields = samples::fields_in_range(&mut self.random, Form::Narrow);
+        fields[0] = bits;
+        fields[3..5].copy_from_slice(&registers);
+        word_of(Form::Narrow, fields)
     }
 
     fn any_words_of_two_forms(&mut self) {
@@ -234,13 +292,18 @@ impl List {
     }
 }
 
+/// The word of a form with fields in range.
+fn word_of(form: Form, fields: [u32; 6]) -> u32 {
+    encode(FULL, Instruction::from_fields(form, fields)).expect("the fields are in range")
+}
+
 #[cfg(test)]
 mod tests {
     use super::*;
     use crate::once::check_list;
 
     #[test]
-    fn about_two_thousand() {
-        check_list(generate, 1700..=2300);
+    fn about_three_thousand_and_a_half() {
+        check_list(generate, 3000..=4000);
     }
 }

@@ -61,11 +61,12 @@ fn read_fields(form: Form, word: u32) -> Instruction {
             zn: bits(word, 5, 5),
             zd: 16 * bits(word, 4, 1) + bits(word, 0, 2),
         },
-        Form::Uqrshrnb => {
+        Form::Narrow => {
             let tsz = (bits(word, 22, 1) << 2) | bits(word, 19, 2);
             let imm3 = bits(word, 16, 3);
-            let size = uqrshrnb_size(tsz);
-            Instruction::Uqrshrnb {
+            let size = narrow_size(tsz);
+            Instruction::Narrow {
+                bits: bits(word, 10, 4),
                 size,
                 shift: 2 * size - ((tsz << 3) | imm3),
                 zn: bits(word, 5, 5),
@@ -90,7 +91,7 @@ fn dup_size_and_offset(i1: u32, tszh: u32, tszl: u32) -> (u32, u32) {
 }
 
 /// The `case tsize` of document 004; 000 does not get here.
-fn uqrshrnb_size(tsz: u32) -> u32 {
+fn narrow_size(tsz: u32) -> u32 {
     if tsz & 0b100 != 0 {
         32 // 1xx
     } else if tsz & 0b010 != 0 {

@@ -61,13 +61,15 @@ pub fn in_range(instruction: Instruction) -> bool {
         Instruction::Luti4s { size, i1, zn, zd } => {
             size == 16 && i1 <= 1 && is_vector(zn) && (zd <= 3 || (16..=19).contains(&zd))
         }
-        Instruction::Uqrshrnb {
+        Instruction::Narrow {
+            bits,
             size,
             shift,
             zn,
             zd,
         } => {
-            (size == 8 || size == 16 || size == 32)
+            bits <= 15
+                && (size == 8 || size == 16 || size == 32)
                 && shift >= 1
                 && shift <= size
                 && is_vector(zn)
@@ -115,7 +117,8 @@ fn field_bits(instruction: Instruction) -> u32 {
             // stand in the word where they stand in the number.
             size_bits(size) << 12 | i1 << 16 | zn << 5 | (zd & 0x13)
         }
-        Instruction::Uqrshrnb {
+        Instruction::Narrow {
+            bits,
             size,
             shift,
             zn,
@@ -125,7 +128,7 @@ fn field_bits(instruction: Instruction) -> u32 {
             let amount = 2 * size - shift;
             let tszh = amount >> 5;
             let tszl_imm3 = amount & 0x1f;
-            tszh << 22 | tszl_imm3 << 16 | zn << 5 | zd
+            tszh << 22 | tszl_imm3 << 16 | bits << 10 | zn << 5 | zd
         }
     }
 }
@@ -199,7 +202,9 @@ mod tests {
             let instruction = dup([size, 0, 12, 0, 0, 0]);
             assert_eq!(encode(FULL, instruction), Err(Refusal::Range));
         }
-        let shift = Instruction::from_fields(Form::Uqrshrnb, [8, 264, 0, 0, 0, 0]);
-        assert_eq!(encode(FULL, shift), Err(Refusal::Range));
+        for fields in [[14, 8, 264, 0, 0, 0], [256 + 14, 8, 8, 0, 0, 0]] {
+            let instruction = Instruction::from_fields(Form::Narrow, fields);
+            assert_eq!(encode(FULL, instruction), Err(Refusal::Range));
+        }
     }
 }

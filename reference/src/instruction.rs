@@ -11,7 +11,8 @@ pub enum Form {
     Dup,
     Luti4c,
     Luti4s,
-    Uqrshrnb,
+    /// The sixteen words of document 004's layout.
+    Narrow,
 }
 
 impl Form {
@@ -22,10 +23,11 @@ impl Form {
         Form::Dup,
         Form::Luti4c,
         Form::Luti4s,
-        Form::Uqrshrnb,
+        Form::Narrow,
     ];
 
-    /// 1 to 6, in the order of the table.
+    /// 1 to 5 in the order of the table and 7 for the family: 6 was UQRSHRNB
+    /// alone and is not used again.
     pub fn number(self) -> u32 {
         match self {
             Form::Pext1 => 1,
@@ -33,7 +35,7 @@ impl Form {
             Form::Dup => 3,
             Form::Luti4c => 4,
             Form::Luti4s => 5,
-            Form::Uqrshrnb => 6,
+            Form::Narrow => 7,
         }
     }
 
@@ -41,6 +43,7 @@ impl Form {
         Form::ALL.into_iter().find(|form| form.number() == number)
     }
 
+    /// The form's own name; that of a word is `Instruction::name`.
     pub fn name(self) -> &'static str {
         match self {
             Form::Pext1 => "PEXT1",
@@ -48,17 +51,38 @@ impl Form {
             Form::Dup => "DUP",
             Form::Luti4c => "LUTI4C",
             Form::Luti4s => "LUTI4S",
-            Form::Uqrshrnb => "UQRSHRNB",
+            Form::Narrow => "NARROW",
         }
     }
 
     pub fn field_count(self) -> usize {
         match self {
+            Form::Pext1 | Form::Pext2 | Form::Luti4c | Form::Luti4s => 4,
+            Form::Narrow => 5,
             Form::Dup => 6,
-            _ => 4,
         }
     }
 }
+
+/// The manual's names of the family, by op:U:R:T.
+pub const NARROW_NAMES: [&str; 16] = [
+    "SQSHRUNB",
+    "SQSHRUNT",
+    "SQRSHRUNB",
+    "SQRSHRUNT",
+    "SHRNB",
+    "SHRNT",
+    "RSHRNB",
+    "RSHRNT",
+    "SQSHRNB",
+    "SQSHRNT",
+    "SQRSHRNB",
+    "SQRSHRNT",
+    "UQSHRNB",
+    "UQSHRNT",
+    "UQRSHRNB",
+    "UQRSHRNT",
+];
 
 #[derive(Clone, Copy, Debug, PartialEq, Eq, Hash)]
 pub enum Instruction {
@@ -100,7 +124,9 @@ pub enum Instruction {
         /// the first destination
         zd: u32,
     },
-    Uqrshrnb {
+    Narrow {
+        /// op:U:R:T, 0 to 15
+        bits: u32,
         /// the result's size
         size: u32,
         shift: u32,
@@ -117,7 +143,19 @@ impl Instruction {
             Instruction::Dup { .. } => Form::Dup,
             Instruction::Luti4c { .. } => Form::Luti4c,
             Instruction::Luti4s { .. } => Form::Luti4s,
-            Instruction::Uqrshrnb { .. } => Form::Uqrshrnb,
+            Instruction::Narrow { .. } => Form::Narrow,
+        }
+    }
+
+    /// The name the lister gives to its word. Four bits too great, which no
+    /// word has, give the family's name.
+    pub fn name(&self) -> &'static str {
+        match *self {
+            Instruction::Narrow { bits, .. } => NARROW_NAMES
+                .get(bits as usize)
+                .copied()
+                .unwrap_or(Form::Narrow.name()),
+            other => other.form().name(),
         }
     }
 
@@ -146,12 +184,13 @@ impl Instruction {
             } => [size, offset, index, pg, pn, pd],
             Instruction::Luti4c { size, i1, zn, zd } => [size, i1, zn, zd, 0, 0],
             Instruction::Luti4s { size, i1, zn, zd } => [size, i1, zn, zd, 0, 0],
-            Instruction::Uqrshrnb {
+            Instruction::Narrow {
+                bits,
                 size,
                 shift,
                 zn,
                 zd,
-            } => [size, shift, zn, zd, 0, 0],
+            } => [bits, size, shift, zn, zd, 0],
         }
     }
 
@@ -191,11 +230,12 @@ impl Instruction {
                 zn: c,
                 zd: d,
             },
-            Form::Uqrshrnb => Instruction::Uqrshrnb {
-                size: a,
-                shift: b,
-                zn: c,
-                zd: d,
+            Form::Narrow => Instruction::Narrow {
+                bits: a,
+                size: b,
+                shift: c,
+                zn: d,
+                zd: e,
             },
         }
     }
@@ -206,11 +246,12 @@ mod tests {
     use super::*;
 
     #[test]
-    fn forms_are_numbered_one_to_six() {
+    fn forms_are_numbered_without_six() {
         let numbers: Vec<u32> = Form::ALL.iter().map(|form| form.number()).collect();
-        assert_eq!(numbers, [1, 2, 3, 4, 5, 6]);
+        assert_eq!(numbers, [1, 2, 3, 4, 5, 7]);
         assert_eq!(Form::from_number(0), None);
-        assert_eq!(Form::from_number(7), None);
+        assert_eq!(Form::from_number(6), None);
+        assert_eq!(Form::from_number(8), None);
         assert_eq!(Form::from_number(257), None);
     }
 

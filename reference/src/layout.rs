@@ -23,7 +23,7 @@ impl Layout {
 /// - DUP:      00100101 i h 1 lll mm 01 gggg 0 nnnn 0 dddd
 /// - LUTI4C:   11000000 10001 01 i 10 ss 00 nnnnn ddd 00
 /// - LUTI4S:   11000000 10011 01 i 10 ss 00 nnnnn D 00 dd
-/// - UQRSHRNB: 01000101 0 h 1 ll iii 00 1110 nnnnn ddddd
+/// - NARROW:   01000101 0 h 1 ll iii 00 o U R T nnnnn ddddd
 pub const LAYOUTS: [Layout; 6] = [
     Layout {
         form: Form::Pext1,
@@ -51,9 +51,9 @@ pub const LAYOUTS: [Layout; 6] = [
         value: 0xc09a_8000,
     },
     Layout {
-        form: Form::Uqrshrnb,
-        mask: 0xffa0_fc00,
-        value: 0x4520_3800,
+        form: Form::Narrow,
+        mask: 0xffa0_c000,
+        value: 0x4520_0000,
     },
 ];
 
@@ -64,7 +64,7 @@ pub fn layout_of(form: Form) -> &'static Layout {
         Form::Dup => &LAYOUTS[2],
         Form::Luti4c => &LAYOUTS[3],
         Form::Luti4s => &LAYOUTS[4],
-        Form::Uqrshrnb => &LAYOUTS[5],
+        Form::Narrow => &LAYOUTS[5],
     }
 }
 
@@ -84,7 +84,7 @@ pub fn has_features(form: Form, setting: Setting) -> bool {
         Form::Dup => setting.has(SME),
         Form::Luti4c => setting.has(SME2),
         Form::Luti4s => setting.has(SME2P1),
-        Form::Uqrshrnb => setting.has(SVE2) || setting.has(SME),
+        Form::Narrow => setting.has(SVE2) || setting.has(SME),
     }
 }
 
@@ -99,7 +99,7 @@ pub fn has_field_condition(form: Form, word: u32) -> bool {
         // size is 01
         Form::Luti4s => word & 0x3000 == 0x1000,
         // tszh:tszl not 000: bit 22 and bits 20 and 19
-        Form::Uqrshrnb => word & 0x0058_0000 != 0,
+        Form::Narrow => word & 0x0058_0000 != 0,
     }
 }
 
@@ -116,8 +116,8 @@ mod tests {
         }
     }
 
-    /// Document 01's table, letter for letter: 0 and 1 are fixed, every other
-    /// letter is a bit of a field.
+    /// Document 01's table, letter for letter, with the last row as request 1
+    /// has it: 0 and 1 are fixed, every other letter is a bit of a field.
     #[test]
     fn masks_and_values_agree_with_the_printed_rows() {
         let rows = [
@@ -126,7 +126,7 @@ mod tests {
             "00100101 i h 1 lll mm 01 gggg 0 nnnn 0 dddd",
             "1100000010001 01 i 10 ss 00 nnnnn ddd 00",
             "1100000010011 01 i 10 ss 00 nnnnn D 00 dd",
-            "010001010 h 1 ll iii 00 1110 nnnnn ddddd",
+            "010001010 h 1 ll iii 00 oURT nnnnn ddddd",
         ];
         for (row, layout) in rows.iter().zip(&LAYOUTS) {
             let letters: Vec<char> = row.chars().filter(|&c| c != ' ').collect();

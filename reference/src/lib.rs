@@ -1,7 +1,8 @@
 //! # Reference program
 //!
 //! An independent second program for the words of document 01 (`01-scope.md`),
-//! with request 3 of document 02 (`02-change-requests.md`): no answer is 7.
+//! with requests 1 and 3 of document 02 (`02-change-requests.md`): the whole
+//! narrowing family, and no answer is 7.
 //! It was written from the documents alone (01, 02, the source documents 000
 //! to 004 and the list of readings of doubtful points), by a hand that had not
 //! seen the proved library, so that the two can be compared. Nothing here is
@@ -11,7 +12,8 @@
 //!
 //! - [`setting`]: which vector lengths and feature numbers are allowed
 //! - [`refusal`]: the numbers the bench answers with
-//! - [`instruction`]: the six forms and their fields as document 01 reads them
+//! - [`instruction`]: the six forms, the last of them a family, and their
+//!   fields as document 01 reads them
 //! - [`layout`]: one mask and value for each form, and the conditions
 //! - [`decode`], [`encode`]: word to instruction and back
 //! - [`lister`]: four bytes in, one line of text out
@@ -22,6 +24,7 @@
 //! - [`bits`]: registers as rows of bits
 //! - [`counter`]: the predicate-as-counter and its expansion
 //! - [`operations`]: what the words compute
+//! - [`narrow`](mod@narrow): the same for the sixteen narrowing words
 //! - [`access`]: which access flags a word needs
 //! - [`step`], [`run`](mod@run): one word, and a stretch of them
 //! - [`touch`](mod@touch): what a word reads and writes, and which words conflict
@@ -47,7 +50,7 @@
 //!
 //! ```text
 //! reference list                        words on stdin, lines on stdout
-//! reference questions [SEED]            prints questions of kinds 0 to 6
+//! reference questions [SEED]            prints questions of kinds 0 to 6 and 11
 //! reference step-questions [SEED]       prints questions of kind 7
 //! reference conflict-questions [SEED]   prints questions of kind 8
 //! reference run-questions [SEED]        prints questions of kind 9
@@ -68,6 +71,7 @@ pub mod instruction;
 pub mod layout;
 pub mod lister;
 pub mod machine;
+pub mod narrow;
 pub mod once;
 pub mod operations;
 pub mod permission_question;

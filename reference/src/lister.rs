@@ -43,10 +43,10 @@ pub fn list_stream(input: &mut impl Read, output: &mut impl Write) -> io::Result
     output.write_all(&list(&buffer[..kept]))
 }
 
-/// The name of a word's form under all features and VL 128.
+/// The name of a word under all features and VL 128.
 pub fn name(word: u32) -> &'static str {
     match decode(FULL, word) {
-        Ok(instruction) => instruction.form().name(),
+        Ok(instruction) => instruction.name(),
         Err(_) => "UNDEFINED",
     }
 }
@@ -80,6 +80,25 @@ mod tests {
         ];
         let text = b"25207010 PEXT1\n25204000 UNDEFINED\n45283800 UQRSHRNB\n";
         assert_eq!(list(&input), text);
+    }
+
+    /// Request 1's names, and none longer than UNDEFINED.
+    #[test]
+    fn names_of_the_family() {
+        let names = "SQSHRUNB SQSHRUNT SQRSHRUNB SQRSHRUNT SHRNB SHRNT RSHRNB RSHRNT \
+                     SQSHRNB SQSHRNT SQRSHRNB SQRSHRNT UQSHRNB UQSHRNT UQRSHRNB UQRSHRNT";
+        let mut word = 0x4528_0000;
+        for expected in names.split(' ') {
+            assert!(expected.len() <= "UNDEFINED".len());
+            assert_eq!(name(word), expected);
+            let line = format!("{word:08x} {expected}\n");
+            assert_eq!(list(&word.to_le_bytes()), line.as_bytes());
+            // tszh:tszl 000
+            assert_eq!(name(word & !0x0058_0000), "UNDEFINED");
+            word += 0x400;
+        }
+        assert_eq!(word, 0x4528_4000);
+        assert_eq!(name(word), "UNDEFINED");
     }
 
     #[test]

@@ -1,6 +1,7 @@
 //! What the words compute, on rows of bits; nothing here knows the machine.
 //!
-//! Each function is its paragraph of document 01 in loops. Sizes, portions
+//! Each function is its paragraph of document 01 in loops; the narrowing
+//! family has a page of its own, `narrow`. Sizes, portions
 //! and shifts are those of a decoded instruction and so are in range.
 
 use crate::bits::{element, set_element};
@@ -67,23 +68,6 @@ pub fn luti4(indexes: &[bool], table: &[bool], size: u32, i1: u32, vl: u32) -> V
         destinations.push(result);
     }
     destinations
-}
-
-/// Elements of 2·size bits, rounded, shifted and cut to `size` bits in the
-/// even elements; the odd ones are 0.
-pub fn uqrshrnb(source: &[bool], size: u32, shift: u32, vl: u32) -> Vec<bool> {
-    let size = size as usize;
-    let wide = 2 * size;
-    let mut result = vec![false; vl as usize];
-    for e in 0..vl as usize / wide {
-        let x = element(source, e, wide);
-        // At most 2^64 − 1 + 2^31: far from what a u128 holds.
-        let rounded = (x + (1 << (shift - 1))) / (1 << shift);
-        let greatest = (1 << size) - 1;
-        set_element(&mut result, 2 * e, size, rounded.min(greatest));
-        set_element(&mut result, 2 * e + 1, size, 0);
-    }
-    result
 }
 
 #[cfg(test)]

@@ -11,7 +11,7 @@ use crate::once::Once;
 use crate::permission_question::PermissionQuestion;
 use crate::random::Random;
 use crate::run::LONGEST_STRETCH;
-use crate::samples::{matching_word, near_miss};
+use crate::samples::{matching_word, narrow_word, near_miss};
 use crate::setting::{ALL_FEATURES, Setting, VECTOR_LENGTHS, features_are_allowed};
 use crate::stretches::stretch_of;
 use crate::values::{FEATURES_ABOVE, LENGTHS_NOT_ALLOWED};
@@ -90,7 +90,9 @@ impl List {
     /// no two conflict and for any words.
     fn no_rearrangements(&mut self) {
         for length in [1, 2, 3, 8] {
-            let free: Vec<u32> = (0..length).map(|zd| 0x4528_3800 | 30 << 5 | zd).collect();
+            let free: Vec<u32> = (0..length)
+                .map(|zd| narrow_word(self.random.below(16), 8, 30, zd))
+                .collect();
             let any = self.words(free.len());
             for words in [free, any] {
                 for order in self.wrong_orders(words.len()) {
@@ -257,6 +259,6 @@ mod tests {
 
     #[test]
     fn about_a_thousand_and_a_half() {
-        check_list(generate, 1100..=1900);
+        check_list(generate, 1300..=1900);
     }
 }

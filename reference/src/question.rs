@@ -4,7 +4,7 @@
 use crate::decode::decode;
 use crate::encode::encode;
 use crate::instruction::{Form, Instruction};
-use crate::refusal::DONE;
+use crate::refusal::{DONE, Refusal};
 use crate::setting::Setting;
 use crate::touch::conflict;
 
@@ -20,6 +20,11 @@ pub enum Question {
         /// In the form's order, unused places 0.
         fields: [u32; 6],
     },
+    /// Encode of the form that was UQRSHRNB alone, whatever its list holds.
+    EncodeRetired {
+        setting: Setting,
+        fields: [u32; 6],
+    },
     /// Whether two words conflict.
     Conflict {
         setting: Setting,
@@ -30,6 +35,7 @@ pub enum Question {
 
 /// For decode: number, form (0 when refused), six fields (0 when refused).
 /// For encode: number, word (0 when refused), six zeros.
+/// For the retired encode: 1 or 9, seven zeros.
 /// For conflict: number, 1 for yes or 0 for no (0 when refused), six zeros.
 pub type Answer = [u32; 8];
 
@@ -38,6 +44,7 @@ impl Question {
         match *self {
             Question::Decode { setting, .. }
             | Question::Encode { setting, .. }
+            | Question::EncodeRetired { setting, .. }
             | Question::Conflict { setting, .. } => setting,
         }
     }
@@ -59,6 +66,9 @@ impl Question {
                 Ok(word) => [DONE, word, 0, 0, 0, 0, 0, 0],
                 Err(refusal) => [refusal.number(), 0, 0, 0, 0, 0, 0, 0],
             },
+            Question::EncodeRetired { setting, .. } => {
+                [retired(setting).number(), 0, 0, 0, 0, 0, 0, 0]
+            }
             Question::Conflict {
                 setting,
                 first,
@@ -68,5 +78,15 @@ impl Question {
                 Err(refusal) => [refusal.number(), 0, 0, 0, 0, 0, 0, 0],
             },
         }
+    }
+}
+
+/// How writing a word of the retired form is refused: no list of it is in
+/// range any more, and that is asked after the setting.
+fn retired(setting: Setting) -> Refusal {
+    if setting.is_allowed() {
+        Refusal::Range
+    } else {
+        Refusal::Setting
     }
 }

@@ -1,9 +1,11 @@
 //! The list of questions about reading and writing words put to both programs
-//! (kinds 0 to 6).
+//! (kinds 0 to 6 and 11).
 //!
 //! What must be asked is asked by construction, one function for each kind of
 //! case; the seed only fills in what may be anything. A question that comes up
 //! twice is kept once.
+
+mod family;
 
 use crate::instruction::Form;
 use crate::once::Once;
@@ -34,6 +36,8 @@ pub fn generate(seed: u64) -> Vec<Question> {
     list.every_immediate();
     list.several_fields_out_of_range();
     list.fields_in_range();
+    list.family();
+    list.retired();
     list.questions.into_list()
 }
 
@@ -208,7 +212,7 @@ impl List {
             for place in 0..form.field_count() {
                 let by_size: &[u32] = match (form, place) {
                     (Form::Dup, 1) => &[8, 16, 32, 64],
-                    (Form::Uqrshrnb, 1) => &[8, 16, 32],
+                    (Form::Narrow, 2) => &[8, 16, 32],
                     _ => &[],
                 };
                 if by_size.is_empty() {
@@ -226,23 +230,22 @@ impl List {
             let setting = self.all_features();
             let mut fields = samples::fields_in_range(&mut self.random, form);
             if let Some(size) = size {
-                fields[0] = size;
+                // It stands just before the field whose range hangs on it.
+                fields[place - 1] = size;
             }
-            if place == 0 {
-                // The second field must be in range whatever the size is, so
-                // that only the size decides.
-                match form {
-                    Form::Dup => fields[1] = self.random.below(2),
-                    Form::Uqrshrnb => fields[1] = 1 + self.random.below(8),
-                    _ => {}
-                }
+            // The field after the size must be in range whatever the size is,
+            // so that only the size decides.
+            match (form, place) {
+                (Form::Dup, 0) => fields[1] = self.random.below(2),
+                (Form::Narrow, 1) => fields[2] = 1 + self.random.below(8),
+                _ => {}
             }
             fields[place] = value;
             self.encode(setting, form, fields);
         }
     }
 
-    /// DUP's offset and UQRSHRNB's shift at every value for every size, and
+    /// DUP's offset and the narrowing words' shift at every value for every size, and
     /// one too far at each end.
     fn every_immediate(&mut self) {
         for size in [8, 16, 32, 64] {
@@ -257,10 +260,10 @@ impl List {
         for size in [8, 16, 32] {
             for shift in 0..=size + 1 {
                 let setting = self.all_features();
-                let mut fields = samples::fields_in_range(&mut self.random, Form::Uqrshrnb);
-                fields[0] = size;
-                fields[1] = shift;
-                self.encode(setting, Form::Uqrshrnb, fields);
+                let mut fields = samples::fields_in_range(&mut self.random, Form::Narrow);
+                fields[1] = size;
+                fields[2] = shift;
+                self.encode(setting, Form::Narrow, fields);
             }
         }
     }
@@ -306,7 +309,7 @@ mod tests {
     use crate::once::check_list;
 
     #[test]
-    fn five_to_six_thousand() {
-        check_list(generate, 5000..=6000);
+    fn eight_to_ten_thousand() {
+        check_list(generate, 8000..=10_000);
     }
 }

@@ -48,18 +48,18 @@ pub const VECTORS_WRITTEN: [Role; 9] = [
     role(Form::Luti4s, 3, 4),
     role(Form::Luti4s, 3, 8),
     role(Form::Luti4s, 3, 12),
-    role(Form::Uqrshrnb, 3, 0),
+    role(Form::Narrow, 4, 0),
 ];
 
 pub const VECTORS_READ: [Role; 3] = [
     role(Form::Luti4c, 2, 0),
     role(Form::Luti4s, 2, 0),
-    role(Form::Uqrshrnb, 2, 0),
+    role(Form::Narrow, 3, 0),
 ];
 
 /// PEXT1, PEXT2 and DUP touch only predicates, the others only vectors.
 pub const PREDICATE_FORMS: [Form; 3] = [Form::Pext1, Form::Pext2, Form::Dup];
-pub const VECTOR_FORMS: [Form; 3] = [Form::Luti4c, Form::Luti4s, Form::Uqrshrnb];
+pub const VECTOR_FORMS: [Form; 3] = [Form::Luti4c, Form::Luti4s, Form::Narrow];
 
 /// A word in which the register has the role, if it can have it.
 pub fn word_with(random: &mut Random, role: Role, register: u32) -> Option<u32> {
@@ -97,7 +97,7 @@ fn share_another(a: Role, first: u32, b: Role, second: u32, register: u32) -> bo
             .fields();
         let written = fields[role.form.field_count() - 1];
         match role.form {
-            Form::Pext1 | Form::Uqrshrnb => vec![written],
+            Form::Pext1 | Form::Narrow => vec![written],
             Form::Pext2 => vec![written, (written + 1) % 16],
             Form::Dup => vec![fields[3], fields[4], written],
             Form::Luti4c => (0..4).map(|r| written + r).collect(),

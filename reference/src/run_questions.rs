@@ -141,7 +141,7 @@ impl List {
             for accepted in 0..2 {
                 let refused = [
                     near_miss(&mut self.random),
-                    matching_word(&mut self.random, Form::Uqrshrnb),
+                    matching_word(&mut self.random, Form::Narrow),
                     matching_word(&mut self.random, Form::Luti4c),
                 ];
                 // Without SVE2p1 PEXT needs only S.
@@ -254,7 +254,7 @@ impl List {
     fn wrong_files(&mut self) {
         for (file, right) in [(0, 8192), (1, 512), (2, 64)] {
             for length in [right - 1, right + 1, 0] {
-                let forms = [&Form::ALL[..], &[Form::Pext1], &[Form::Uqrshrnb], &[]];
+                let forms = [&Form::ALL[..], &[Form::Pext1], &[Form::Narrow], &[]];
                 for forms in forms {
                     let mut start = self.start(ALL_FEATURES);
                     start.set_length(file, length);
@@ -347,6 +347,6 @@ mod tests {
 
     #[test]
     fn about_a_thousand_and_a_half() {
-        check_list(generate, 1100..=1900);
+        check_list(generate, 1300..=1900);
     }
 }

@@ -10,7 +10,7 @@ use crate::random::Random;
 use crate::setting::FULL;
 
 /// The bits of each field of a form in the word. DUP's size and offset share
-/// theirs, as do UQRSHRNB's size and shift, and LUTI4S has its destination in
+/// theirs, as do the narrowing words' size and shift, and LUTI4S has its destination in
 /// two pieces.
 pub fn field_masks(form: Form) -> &'static [u32] {
     match form {
@@ -19,7 +19,7 @@ pub fn field_masks(form: Form) -> &'static [u32] {
         Form::Dup => &[0x00dc_0000, 0x0003_0000, 0x3c00, 0x1e0, 0xf],
         Form::Luti4c => &[0x0001_0000, 0x3000, 0x3e0, 0x1c],
         Form::Luti4s => &[0x0001_0000, 0x3000, 0x3e0, 0x13],
-        Form::Uqrshrnb => &[0x005f_0000, 0x3e0, 0x1f],
+        Form::Narrow => &[0x3c00, 0x005f_0000, 0x3e0, 0x1f],
     }
 }
 
@@ -30,7 +30,7 @@ pub fn failing_conditions(form: Form) -> (u32, &'static [u32]) {
         Form::Dup => (0x005c_0000, &[0]),
         Form::Luti4c => (0x3000, &[0x0000, 0x3000]),
         Form::Luti4s => (0x3000, &[0x0000, 0x2000, 0x3000]),
-        Form::Uqrshrnb => (0x0058_0000, &[0]),
+        Form::Narrow => (0x0058_0000, &[0]),
     }
 }
 
@@ -43,6 +43,12 @@ pub fn matching_word(random: &mut Random, form: Form) -> u32 {
             return word;
         }
     }
+}
+
+/// The narrowing word with this op:U:R:T and tszh:tszl:imm3, which may be
+/// that of no size.
+pub fn narrow_word(bits: u32, amount: u32, zn: u32, zd: u32) -> u32 {
+    0x4520_0000 | bits << 10 | spread(amount, 0x005f_0000) | zn << 5 | zd
 }
 
 /// A word with the form's fixed bits, failing its field condition; none for
@@ -131,14 +137,14 @@ pub fn fields_in_range(random: &mut Random, form: Form) -> [u32; 6] {
             0,
             0,
         ],
-        Form::Uqrshrnb => {
+        Form::Narrow => {
             let size = random.pick(&[8, 16, 32]);
             [
+                random.below(16),
                 size,
                 1 + random.below(size),
                 random.below(32),
                 random.below(32),
-                0,
                 0,
             ]
         }
@@ -178,12 +184,12 @@ pub fn values_outside(form: Form, place: usize) -> &'static [u32] {
             &[],
             &[],
         ],
-        Form::Uqrshrnb => [
+        Form::Narrow => [
+            &[16, 17, 31],
             &[0, 1, 4, 7, 9, 24, 33, 64],
             &[0, 33, 64],
             VECTOR,
             VECTOR,
-            &[],
             &[],
         ],
     };
@@ -259,6 +265,37 @@ mod tests {
             }
             assert!(decode(FULL, near_miss(&mut random)).is_err());
         }
+    }
+
+    #[test]
+    fn all_sixteen_of_the_family_come_up() {
+        let mut random = Random::new(12);
+        let (mut matching, mut failing) = ([0; 16], [0; 16]);
+        for _ in 0..1000 {
+            let word = matching_word(&mut random, Form::Narrow);
+            matching[(word >> 10 & 15) as usize] += 1;
+            let word = failing_word(&mut random, Form::Narrow).unwrap();
+            failing[(word >> 10 & 15) as usize] += 1;
+        }
+        assert!(matching.iter().chain(&failing).all(|&count| count > 20));
+        let mut listed = [0; 16];
+        for word in listing_words(3, 20_000) {
+            if let Ok(Instruction::Narrow { bits, .. }) = decode(FULL, word) {
+                listed[bits as usize] += 1;
+            }
+        }
+        assert!(listed.iter().all(|&count| count > 50), "{listed:?}");
+    }
+
+    /// Document 01's point 3, and a size of its own.
+    #[test]
+    fn narrowing_words_by_hand() {
+        assert_eq!(narrow_word(14, 2 * 8 - 8, 0, 0), 0x4528_3800);
+        assert_eq!(narrow_word(14, 2 * 8 - 1, 0, 0), 0x452f_3800);
+        assert_eq!(narrow_word(14, 2 * 32 - 32, 0, 0), 0x4560_3800);
+        assert_eq!(narrow_word(14, 2 * 32 - 1, 0, 0), 0x457f_3800);
+        assert_eq!(narrow_word(14, 0, 0, 0), 0x4520_3800);
+        assert_eq!(narrow_word(9, 2 * 16 - 5, 31, 2), 0x453b_27e2);
     }
 
     #[test]

@@ -5,7 +5,8 @@ use crate::counter::Counter;
 use crate::decode::decode;
 use crate::instruction::Instruction;
 use crate::machine::Machine;
-use crate::operations::{dup, luti4, pext, uqrshrnb};
+use crate::narrow::narrow;
+use crate::operations::{dup, luti4, pext};
 use crate::refusal::Refusal;
 use crate::setting::Setting;
 
@@ -85,13 +86,15 @@ fn execute(instruction: Instruction, vl: u32, machine: &Machine) -> Vec<Written>
             let results = luti4(&machine.vector(zn, vl), &machine.table(), size, i1, vl);
             spaced(zd, 4, results)
         }
-        Instruction::Uqrshrnb {
+        Instruction::Narrow {
+            bits,
             size,
             shift,
             zn,
             zd,
         } => {
-            let result = uqrshrnb(&machine.vector(zn, vl), size, shift, vl);
+            let (source, old) = (machine.vector(zn, vl), machine.vector(zd, vl));
+            let result = narrow(bits, &source, &old, size, shift, vl);
             vec![Written::Vector(zd, result)]
         }
     }

@@ -110,8 +110,8 @@ mod tests {
     use crate::once::check_list;
 
     #[test]
-    fn three_to_four_thousand() {
-        check_list(generate, 3000..=4000);
+    fn at_most_sixteen_thousand() {
+        check_list(generate, 10_000..=16_000);
     }
 
     #[test]

@@ -6,11 +6,14 @@
 //! nine numbers (81 bytes); these, or a further part of fixed length, tell how
 //! many more there are.
 //!
-//! **Kinds 0 to 6 and 8** are `kind vl features n1 n2 n3 n4 n5 n6` (81 bytes).
-//! Kind 0 is decode with n1 the word; kinds 1 to 6 are encode of that form
-//! with its fields in order; kind 8 asks whether the words n1 and n2 conflict.
-//! Places that are not used are 0. Their answers have eight numbers (72
-//! bytes), told in `question`.
+//! **Kinds 0 to 6, 8 and 11** are `kind vl features n1 n2 n3 n4 n5 n6` (81
+//! bytes). Kind 0 is decode with n1 the word. Kinds 1 to 6 are encode of a
+//! list whose form is one less, and kind 11 (`0000000b`) of form 6, with the
+//! list's other six numbers in order; where the form is not used any more
+//! (form 5, kind 6) these may be anything. Kind 8 asks whether the words n1
+//! and n2 conflict. Places that are not used are 0. Their answers have eight
+//! numbers (72 bytes), told in `question`; a form in them is one more than
+//! the list's, so 7 for form 6.
 //!
 //! **Kind 7** is a step, twenty numbers (180 bytes):
 //!
@@ -86,6 +89,11 @@ pub const CONFLICT_KIND: u32 = 8;
 pub const RUN_KIND: u32 = 9;
 pub const PERMISSION_KIND: u32 = 10;
 
+/// Encode of the form that is not used any more.
+pub const RETIRED_KIND: u32 = 6;
+/// Encode of the narrowing family; the kinds between were taken.
+pub const NARROW_KIND: u32 = 11;
+
 /// A question is not asked about more words or entries than this, so that a
 /// wrong line cannot take all memory.
 pub const LONGEST_LIST: u32 = 1 << 16;
@@ -94,7 +102,8 @@ pub fn question_line(question: &Question) -> String {
     let setting = question.setting();
     let (kind, [a, b, c, d, e, f]) = match *question {
         Question::Decode { word, .. } => (0, [word, 0, 0, 0, 0, 0]),
-        Question::Encode { form, fields, .. } => (form.number(), fields),
+        Question::Encode { form, fields, .. } => (encode_kind(form), fields),
+        Question::EncodeRetired { fields, .. } => (RETIRED_KIND, fields),
         Question::Conflict { first, second, .. } => (CONFLICT_KIND, [first, second, 0, 0, 0, 0]),
     };
     numbers_line(&[kind, setting.vl, setting.features, a, b, c, d, e, f])
@@ -150,31 +159,48 @@ pub fn kind_of(line: &[u8]) -> Result<u32, String> {
 pub fn read_question(line: &[u8]) -> Result<Question, String> {
     let [kind, vl, features, fields @ ..] = read_numbers::<9>(line)?;
     let setting = Setting { vl, features };
-    let used = match (kind, Form::from_number(kind)) {
-        (0, _) => 1,
-        (CONFLICT_KIND, _) => 2,
-        (_, Some(form)) => form.field_count(),
+    let form = Form::ALL
+        .into_iter()
+        .find(|&form| encode_kind(form) == kind);
+    let (used, question) = match (kind, form) {
+        (_, Some(form)) => (
+            form.field_count(),
+            Question::Encode {
+                setting,
+                form,
+                fields,
+            },
+        ),
+        (0, None) => (
+            1,
+            Question::Decode {
+                setting,
+                word: fields[0],
+            },
+        ),
+        (RETIRED_KIND, None) => (6, Question::EncodeRetired { setting, fields }),
+        (CONFLICT_KIND, None) => (
+            2,
+            Question::Conflict {
+                setting,
+                first: fields[0],
+                second: fields[1],
+            },
+        ),
         (_, None) => return Err(format!("there is no kind {kind:08x} of this length")),
     };
     if fields[used..].iter().any(|&field| field != 0) {
         return Err("a place that is not used is not 0".to_string());
     }
-    Ok(match Form::from_number(kind) {
-        Some(form) => Question::Encode {
-            setting,
-            form,
-            fields,
-        },
-        None if kind == CONFLICT_KIND => Question::Conflict {
-            setting,
-            first: fields[0],
-            second: fields[1],
-        },
-        None => Question::Decode {
-            setting,
-            word: fields[0],
-        },
-    })
+    Ok(question)
+}
+
+/// The kind of a question about encode of a form.
+fn encode_kind(form: Form) -> u32 {
+    match form {
+        Form::Pext1 | Form::Pext2 | Form::Dup | Form::Luti4c | Form::Luti4s => form.number(),
+        Form::Narrow => NARROW_KIND,
+    }
 }
 
 /// Refuses everything that `permission_question_line` could not have written.
@@ -360,7 +386,9 @@ mod tests {
         assert!(spoilt(0, b'-').is_err());
         assert!(spoilt(7, b'7').is_err()); // a step is longer
         assert!(spoilt(7, b'9').is_err()); // and so is a run
-        assert!(spoilt(7, b'b').is_err()); // no kind 11
+        assert!(spoilt(7, b'b').is_err()); // the narrowing family has five fields
+        assert!(spoilt(7, b'c').is_err()); // no kind 12
+        assert!(spoilt(7, b'6').is_ok()); // whatever follows
         assert!(spoilt(7, b'0').is_err()); // decode with more than a word
         assert!(spoilt(7, b'1').is_err()); // PEXT1 with six fields
         assert!(spoilt(79, b'0').is_ok());

@@ -2,6 +2,7 @@
 
 use crate::decode::decode;
 use crate::instruction::Instruction;
+use crate::narrow::Kind;
 use crate::refusal::Refusal;
 use crate::setting::Setting;
 
@@ -47,8 +48,13 @@ pub fn touch(instruction: Instruction) -> Touch {
             reads: vec![Z(zn), Zt0],
             writes: (0..4).map(|r| Z(zd + 4 * r)).collect(),
         },
-        Instruction::Uqrshrnb { zn, zd, .. } => Touch {
-            reads: vec![Z(zn)],
+        Instruction::Narrow { bits, zn, zd, .. } => Touch {
+            // T set keeps the even elements of Zd, and so reads it.
+            reads: if Kind::from_number(bits).t {
+                vec![Z(zn), Z(zd)]
+            } else {
+                vec![Z(zn)]
+            },
             writes: vec![Z(zd)],
         },
     }
@@ -91,6 +97,21 @@ mod tests {
         assert_eq!(touch(strided).writes, z([19, 23, 27, 31]));
     }
 
+    /// A T word reads its destination, a B word does not.
+    #[test]
+    fn what_the_family_reads() {
+        for bits in 0..16 {
+            let narrow = Instruction::from_fields(Form::Narrow, [bits, 8, 1, 5, 6, 0]);
+            let touched = touch(narrow);
+            assert_eq!(touched.writes, [Register::Z(6)]);
+            if bits % 2 == 0 {
+                assert_eq!(touched.reads, [Register::Z(5)]);
+            } else {
+                assert_eq!(touched.reads, [Register::Z(5), Register::Z(6)]);
+            }
+        }
+    }
+
     #[test]
     fn readers_alone_do_not_conflict() {
         // Counter P9, governing P9, source P9; all destinations apart.
@@ -107,7 +128,7 @@ mod tests {
 
     #[test]
     fn z3_is_not_p3() {
-        let narrow = word(Form::Uqrshrnb, [8, 1, 3, 3, 0, 0]);
+        let narrow = word(Form::Narrow, [14, 8, 1, 3, 3, 0]);
         let dup = word(Form::Dup, [8, 0, 12, 3, 3, 3]);
         assert_eq!(conflict(FULL, narrow, dup), Ok(false));
         assert_eq!(conflict(FULL, narrow, narrow), Ok(true));

@@ -111,6 +111,27 @@ pub const PRINTED_WORDS: [u32; 16] = [
     0x2520_4000,
 ];
 
+/// The first words of the narrowing family, by op:U:R:T from 0000 to 1111:
+/// size 8, shift 8, Zn and Zd 0.
+pub const NARROW_WORDS: [u32; 16] = [
+    0x4528_0000,
+    0x4528_0400,
+    0x4528_0800,
+    0x4528_0c00,
+    0x4528_1000,
+    0x4528_1400,
+    0x4528_1800,
+    0x4528_1c00,
+    0x4528_2000,
+    0x4528_2400,
+    0x4528_2800,
+    0x4528_2c00,
+    0x4528_3000,
+    0x4528_3400,
+    0x4528_3800,
+    0x4528_3c00,
+];
+
 /// Put into every field in turn. The first lines hold, for every field of
 /// every form, both ends of its range and the numbers next to them; then come
 /// numbers that are in a range after a cast to 8 or 16 bits, and extremes.

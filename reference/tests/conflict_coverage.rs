@@ -8,7 +8,7 @@ use std::collections::HashSet;
 use masks::{conflict, masks};
 use reference::conflict_questions::generate;
 use reference::decode::decode;
-use reference::instruction::Form;
+use reference::instruction::{Form, Instruction};
 use reference::question::Question;
 use reference::setting::{FULL, Setting};
 use reference::text::{QUESTION_BYTES, question_line, read_question};
@@ -91,6 +91,35 @@ fn every_answer_and_every_pair_of_forms() {
                 assert_eq!(answers, expected, "{a:?} {b:?}");
             }
         }
+    }
+}
+
+/// Any two of the sixteen narrowing words, with both answers; each beside both
+/// lookups too.
+#[test]
+fn every_pair_of_narrowing_words() {
+    for seed in SEEDS {
+        let mut asked = HashSet::new();
+        let mut beside_lookups = HashSet::new();
+        for (_, first, second, [number, value]) in pairs(seed) {
+            if number != 0 {
+                continue;
+            }
+            let [first, second] = [first, second].map(|word| decode(FULL, word).unwrap());
+            match (first, second) {
+                (Instruction::Narrow { bits, .. }, Instruction::Narrow { bits: other, .. }) => {
+                    asked.insert((bits, other, value));
+                }
+                (Instruction::Narrow { bits, .. }, other) => {
+                    if matches!(other.form(), Form::Luti4c | Form::Luti4s) {
+                        beside_lookups.insert((bits, other.form(), value));
+                    }
+                }
+                _ => {}
+            }
+        }
+        assert_eq!(asked.len(), 16 * 16 * 2);
+        assert_eq!(beside_lookups.len(), 16 * 2 * 2);
     }
 }
 

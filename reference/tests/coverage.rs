@@ -186,7 +186,7 @@ fn ends_of_every_field() {
     let vector: (&[u32], &[u32]) = (&[0, 31], &[32, 33, 256, 65536]);
     let counter: (&[u32], &[u32]) = (&[8, 15], &[0, 7, 16, 264, 65544]);
     let i1: (&[u32], &[u32]) = (&[0, 1], &[2, 256, 257, 65537]);
-    // form, place, values in range, values outside, fixed size
+    // form, place, values in range, values outside, the size just before it
     type Row<'a> = (Form, usize, (&'a [u32], &'a [u32]), Option<u32>);
     let rows: Vec<Row> = vec![
         (Pext1, 0, element_sizes, None),
@@ -225,16 +225,22 @@ fn ends_of_every_field() {
         (Luti4s, 2, vector, None),
         (Luti4s, 3, (&[0, 3, 16, 19], &[4, 15, 20, 31, 32]), None),
         (
-            Uqrshrnb,
+            Narrow,
             0,
+            (&[0, 1, 7, 8, 15], &[16, 17, 31, 256, 65536]),
+            None,
+        ),
+        (
+            Narrow,
+            1,
             (&[8, 16, 32], &[0, 4, 7, 9, 64, 264, 65552]),
             None,
         ),
-        (Uqrshrnb, 1, (&[1, 8], &[0, 9, 16, 264, 65544]), Some(8)),
-        (Uqrshrnb, 1, (&[1, 16], &[0, 17, 32, 272, 65552]), Some(16)),
-        (Uqrshrnb, 1, (&[1, 32], &[0, 33, 64, 288, 65568]), Some(32)),
-        (Uqrshrnb, 2, vector, None),
-        (Uqrshrnb, 3, vector, None),
+        (Narrow, 2, (&[1, 8], &[0, 9, 16, 264, 65544]), Some(8)),
+        (Narrow, 2, (&[1, 16], &[0, 17, 32, 272, 65552]), Some(16)),
+        (Narrow, 2, (&[1, 32], &[0, 33, 64, 288, 65568]), Some(32)),
+        (Narrow, 3, vector, None),
+        (Narrow, 4, vector, None),
     ];
     for seed in SEEDS {
         let questions = generate(seed);
@@ -246,7 +252,7 @@ fn ends_of_every_field() {
                             && fields[place] == value
                             && setting.features == 31
                             && vl_is_allowed(setting.vl)
-                            && size.is_none_or(|size| fields[0] == size))
+                            && size.is_none_or(|size| fields[place - 1] == size))
                 }))
             };
             for &value in inside {
@@ -256,6 +262,79 @@ fn ends_of_every_field() {
                 assert_eq!(asked(value), HashSet::from([9]), "{form:?} {place} {value}");
             }
         }
+    }
+}
+
+/// Each of the sixteen narrowing words at every size and shift, read and
+/// written; undefined where it has no size; and its neighbours.
+#[test]
+fn every_narrowing_word() {
+    for seed in SEEDS {
+        let questions = generate(seed);
+        let mut read = HashSet::new();
+        let mut undefined = HashSet::new();
+        for (setting, word) in decodes(&questions) {
+            let bits = word >> 10 & 15;
+            if setting.features != 31 || form_by_fixed_bits(word) != Some(Form::Narrow) {
+                continue;
+            }
+            match decode(setting, word) {
+                Ok(found) => {
+                    let [b, size, shift, ..] = found.fields();
+                    assert_eq!(b, bits);
+                    read.insert((bits, size, shift));
+                }
+                Err(_) => {
+                    undefined.insert((bits, vl_is_allowed(setting.vl)));
+                }
+            }
+        }
+        assert_eq!(read.len(), 16 * 56);
+        assert!((0..16).all(|bits| undefined.contains(&(bits, true))));
+        let written: HashSet<[u32; 3]> = encodes(&questions)
+            .into_iter()
+            .filter(|&(setting, form, _)| {
+                form == Form::Narrow && setting.features == 31 && vl_is_allowed(setting.vl)
+            })
+            .map(|(_, _, fields)| [fields[0], fields[1], fields[2]])
+            .collect();
+        for bits in 0..16 {
+            for size in [8, 16, 32] {
+                for shift in 0..=size + 1 {
+                    assert!(written.contains(&[bits, size, shift]));
+                }
+            }
+            for size in [0, 64] {
+                assert!(written.iter().any(|f| f[..2] == [bits, size]));
+            }
+        }
+        for bits in [16, 31, u32::MAX] {
+            assert!(written.iter().any(|fields| fields[0] == bits));
+        }
+    }
+}
+
+/// Lists of the form that UQRSHRNB had alone: 1 or 9 and nothing else, also
+/// where no word of the family is defined.
+#[test]
+fn the_retired_form() {
+    for seed in SEEDS {
+        let mut answers = HashSet::new();
+        let mut old_words = HashSet::new();
+        for question in generate(seed) {
+            let Question::EncodeRetired { setting, fields } = question else {
+                continue;
+            };
+            let number = if setting.is_allowed() { 9 } else { 1 };
+            assert_eq!(question.answer(), [number, 0, 0, 0, 0, 0, 0, 0]);
+            answers.insert((number, setting.features == 0));
+            let [size, shift, zn, zd, ..] = fields;
+            if [8, 16, 32].contains(&size) && (1..=size).contains(&shift) && zn.max(zd) < 32 {
+                old_words.insert((size, shift));
+            }
+        }
+        assert_eq!(answers, HashSet::from([(1, false), (9, false), (9, true)]));
+        assert_eq!(old_words.len(), 56);
     }
 }
 

@@ -1,5 +1,6 @@
-//! Document 01's points 4 to 12, executed. What is expected here is taken
-//! from the document, not from the program.
+//! Document 01's points 4 to 12, executed, and points 4 and 5 for the whole
+//! narrowing family. What is expected here is taken from the documents, not
+//! from the program.
 
 use reference::machine::Machine;
 use reference::setting::{FULL, Setting};
@@ -41,6 +42,60 @@ fn point_5() {
     let machine = after(FULL, 0x457f_3800, machine);
     let expected = [[0xff; 4], [0; 4], [0xff; 4], [0; 4]].concat();
     assert_eq!(machine.z[..16], expected);
+}
+
+/// Point 4's elements for the whole family, by op:U:R; B clears the odd
+/// elements and T keeps the even ones, here those of its own source.
+#[test]
+fn point_4_over_the_family() {
+    let results = [
+        [0, 0, 0, 0],       // SQSHRUN: -129 and -128 give -1, cut to 0
+        [0, 1, 0, 0],       // SQRSHRUN: -1, cut to 0, and 0
+        [0, 0, 0xff, 0xff], // SHRN
+        [0, 1, 0xff, 0],    // RSHRN: the low half of 100
+        [0, 0, 0xff, 0xff], // SQSHRN: -1
+        [0, 1, 0xff, 0],    // SQRSHRN: -1 and 0
+        [0, 0, 0xff, 0xff], // UQSHRN
+        [0, 1, 0xff, 0xff], // UQRSHRN: cut from 256
+    ];
+    for (kind, [a, b, c, d]) in (0..).zip(results) {
+        let mut machine = Machine::zero();
+        machine.z[..8].copy_from_slice(&0xff80_ff7f_0080_007f_u64.to_le_bytes());
+        machine.z[256..264].fill(0xee);
+        let bottom = 0x4528_0000 | kind << 11;
+        let top = bottom | 1 << 10;
+        let left = after(FULL, bottom, machine.clone());
+        assert_eq!(left.z[..8], [a, 0, b, 0, c, 0, d, 0], "{bottom:08x}");
+        let left = after(FULL, top, machine.clone());
+        let kept = [0x7f, a, 0x80, b, 0x7f, c, 0x80, d];
+        assert_eq!(left.z[..8], kept, "{top:08x}");
+        // Into Z1, where other bytes are kept.
+        let left = after(FULL, top | 1, machine.clone());
+        let kept = [0xee, a, 0xee, b, 0xee, c, 0xee, d];
+        assert_eq!(left.z[256..264], kept, "{top:08x}");
+        assert_eq!(left.z[..256], machine.z[..256]);
+        // T after B fills both halves.
+        let left = after(FULL, top | 1, after(FULL, bottom | 1, machine));
+        assert_eq!(left.z[256..264], [a, a, b, b, c, c, d, d]);
+    }
+}
+
+/// Point 5's element for the whole family: 2^64 - 1 where unsigned, else -1.
+#[test]
+fn point_5_over_the_family() {
+    let greatest = u32::MAX;
+    let results = [0, 0, greatest, 0, greatest, 0, greatest, greatest];
+    for (kind, result) in (0..).zip(results) {
+        let mut machine = Machine::zero();
+        machine.z[..16].fill(0xff);
+        let bottom = 0x457f_0000 | kind << 11;
+        let left = after(FULL, bottom, machine.clone());
+        let half = [result.to_le_bytes(), [0; 4]].concat();
+        assert_eq!(left.z[..16], half.repeat(2), "{bottom:08x}");
+        let left = after(FULL, bottom | 1 << 10, machine);
+        let half = [[0xff; 4], result.to_le_bytes()].concat();
+        assert_eq!(left.z[..16], half.repeat(2), "{bottom:08x}");
+    }
 }
 
 #[test]

@@ -45,6 +45,7 @@ fn point_2() {
     }
 }
 
+/// Document 01's point of UQRSHRNB, and request 1's family at each word.
 #[test]
 fn point_3() {
     let cases = [
@@ -54,16 +55,27 @@ fn point_3() {
         (0x457f_3800, 32, 1),
     ];
     for (word, size, shift) in cases {
-        let expected = Instruction::Uqrshrnb {
-            size,
-            shift,
-            zn: 0,
-            zd: 0,
-        };
-        assert_eq!(decode(FULL, word), Ok(expected));
-        assert_eq!(encode(FULL, expected), Ok(word));
+        for bits in 0..16 {
+            let word = word & !0x3c00 | bits << 10;
+            let expected = Instruction::Narrow {
+                bits,
+                size,
+                shift,
+                zn: 0,
+                zd: 0,
+            };
+            assert_eq!(decode(FULL, word), Ok(expected));
+            assert_eq!(encode(FULL, expected), Ok(word));
+        }
+        // UQRSHRNB is op:U:R:T 1110.
+        let instruction = decode(FULL, word).unwrap();
+        assert_eq!(instruction.fields(), [14, size, shift, 0, 0, 0]);
+        assert_eq!(instruction.name(), "UQRSHRNB");
     }
-    assert_eq!(decode(FULL, 0x4520_3800), Err(Refusal::Undefined));
+    for bits in 0..16 {
+        let word = 0x4520_0000 | bits << 10;
+        assert_eq!(decode(FULL, word), Err(Refusal::Undefined));
+    }
 }
 
 #[test]
@@ -128,15 +140,16 @@ fn words_of_the_listing() {
 /// A word of each form, and the allowed feature numbers it is defined under.
 #[test]
 fn features_of_each_form() {
-    let cases: [(u32, &[u32]); 6] = [
+    let narrowing: &[u32] = &[1, 3, 4, 5, 7, 12, 13, 15, 28, 29, 31];
+    let family = (0..16).map(|k| (0x4528_0000 + k * 0x400, narrowing));
+    let others: [(u32, &[u32]); 5] = [
         (0x2520_7010, &[3, 7, 12, 13, 15, 28, 29, 31]),
         (0x2520_741f, &[3, 7, 12, 13, 15, 28, 29, 31]),
         (0x252c_4000, &[4, 5, 7, 12, 13, 15, 28, 29, 31]),
         (0xc08a_9000, &[12, 13, 15, 28, 29, 31]),
         (0xc09a_9000, &[28, 29, 31]),
-        (0x4528_3800, &[1, 3, 4, 5, 7, 12, 13, 15, 28, 29, 31]),
     ];
-    for (word, defined) in cases {
+    for (word, defined) in others.into_iter().chain(family) {
         let instruction = decode(FULL, word).unwrap();
         for features in 0..300 {
             let decoded = decode(with(features), word);

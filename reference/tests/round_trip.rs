@@ -19,7 +19,7 @@ fn word_count(form: Form) -> usize {
         Form::Dup => (16 + 8 + 4 + 2) * 4 * 16 * 16 * 16,
         Form::Luti4c => 2 * 2 * 32 * 8,
         Form::Luti4s => 2 * 32 * 8,
-        Form::Uqrshrnb => (8 + 16 + 32) * 32 * 32,
+        Form::Narrow => 16 * (8 + 16 + 32) * 32 * 32,
     }
 }
 
@@ -79,13 +79,7 @@ fn fields_come_back() {
 /// nothing is refused that should not be.
 #[test]
 fn all_small_fields() {
-    for form in [
-        Form::Pext1,
-        Form::Pext2,
-        Form::Luti4c,
-        Form::Luti4s,
-        Form::Uqrshrnb,
-    ] {
+    for form in [Form::Pext1, Form::Pext2, Form::Luti4c, Form::Luti4s] {
         let mut accepted = 0;
         for size in 0..=65 {
             for second in 0..=33 {
@@ -103,6 +97,31 @@ fn all_small_fields() {
         }
         assert_eq!(accepted, word_count(form), "{form:?}");
     }
+}
+
+#[test]
+fn all_small_fields_of_the_family() {
+    let mut accepted = 0;
+    for bits in 0..=17 {
+        for size in 0..=65 {
+            for shift in 0..=33 {
+                for zn in 0..=33 {
+                    // The last two fields are walked on the diagonal and a
+                    // parallel to it.
+                    for zd in [zn, (zn + 5) % 34] {
+                        let fields = [bits, size, shift, zn, zd, 0];
+                        let instruction = Instruction::from_fields(Form::Narrow, fields);
+                        if let Ok(word) = encode(FULL, instruction) {
+                            assert_eq!(decode(FULL, word), Ok(instruction));
+                            accepted += 1;
+                        }
+                    }
+                }
+            }
+        }
+    }
+    // On the parallel zn 27 and 28 give 32 and 33, which leaves 30.
+    assert_eq!(accepted, 16 * (8 + 16 + 32) * (32 + 30));
 }
 
 #[test]

@@ -1,7 +1,7 @@
 //! Whether the step questions ask what they are meant to ask, for several
 //! seeds. Counters and elements are looked up in the machines themselves.
 
-use std::collections::HashSet;
+use std::collections::{HashMap, HashSet};
 
 use reference::decode::decode;
 use reference::instruction::{Form, Instruction};
@@ -56,7 +56,10 @@ fn every_size_length_and_immediate() {
             }
             for size in [8, 16, 32] {
                 for shift in 1..=size {
-                    assert!(here(Form::Uqrshrnb, &|f| f[..2] == [size, shift]));
+                    assert!(here(Form::Narrow, &|f| f[1..3] == [size, shift]));
+                }
+                for bits in 0..16 {
+                    assert!(here(Form::Narrow, &|f| f[..2] == [bits, size]));
                 }
             }
             for i1 in 0..2 {
@@ -105,8 +108,11 @@ fn overlapping_registers() {
                     assert!(here(Form::Luti4s, &wanted));
                 }
             }
-            for size in [8, 16, 32] {
-                assert!(here(Form::Uqrshrnb, &|f| f[0] == size && f[2] == f[3]));
+            for bits in 0..16 {
+                for size in [8, 16, 32] {
+                    let wanted = |f: [u32; 6]| f[..2] == [bits, size] && f[3] == f[4];
+                    assert!(here(Form::Narrow, &wanted));
+                }
             }
         }
     }
@@ -168,37 +174,101 @@ fn every_kind_of_counter() {
     }
 }
 
-/// For each shift of each size the elements around the first that rounds up
-/// and the first that is cut, and the greatest.
+/// A narrowing word by its four bits, size and shift.
+type Narrowing = (u32, u32, u32);
+
+/// The elements that each narrowing word reads.
+fn elements(done: &[(StepQuestion, Instruction)]) -> HashMap<Narrowing, HashSet<u128>> {
+    let mut elements: HashMap<Narrowing, HashSet<u128>> = HashMap::new();
+    for (question, found) in done {
+        let Instruction::Narrow {
+            bits,
+            size,
+            shift,
+            zn,
+            ..
+        } = *found
+        else {
+            continue;
+        };
+        let start = 256 * zn as usize;
+        let z = question.start.machine().z;
+        let source = &z[start..start + question.start.setting.vl as usize / 8];
+        let seen = elements.entry((bits, size, shift)).or_default();
+        for bytes in source.chunks_exact(size as usize / 4) {
+            let mut element = [0; 16];
+            element[..bytes.len()].copy_from_slice(bytes);
+            seen.insert(u128::from_le_bytes(element));
+        }
+    }
+    elements
+}
+
+/// For each of the sixteen words, each size and each shift: 0, 1, all ones,
+/// the signed ends, those around the ties and those around the ends of the
+/// result's range, as far as there are such elements.
 #[test]
 fn every_edge_of_rounding_and_saturation() {
     for seed in SEEDS {
-        let done = done(&generate(seed));
-        for size in [8, 16, 32] {
-            for shift in 1..=size {
-                let mut elements = HashSet::new();
-                for (question, found) in &done {
-                    let fields = found.fields();
-                    if found.form() != Form::Uqrshrnb || fields[..2] != [size, shift] {
-                        continue;
-                    }
-                    let start = 256 * fields[2] as usize;
-                    let z = question.start.machine().z;
-                    let source = &z[start..start + question.start.setting.vl as usize / 8];
-                    for bytes in source.chunks_exact(size as usize / 4) {
-                        let mut element = [0; 16];
-                        element[..bytes.len()].copy_from_slice(bytes);
-                        elements.insert(u128::from_le_bytes(element));
-                    }
+        let elements = elements(&done(&generate(seed)));
+        assert_eq!(elements.len(), 16 * 56);
+        for (&(bits, size, shift), seen) in &elements {
+            let wide = 2 * size;
+            let half = 1i128 << (shift - 1);
+            let round = if bits & 2 != 0 { half } else { 0 };
+            let signed = bits & 4 == 0;
+            // The least result and the first number above the greatest.
+            let (least, above) = match bits >> 2 {
+                2 => (-(1i128 << (size - 1)), 1i128 << (size - 1)),
+                _ => (0, 1i128 << size),
+            };
+            let mut wanted = vec![0, 1, half - 1, half, half + 1];
+            wanted.extend([(above << shift) - round - 1, (above << shift) - round]);
+            wanted.extend([(1 << (wide - 1)) - 1]);
+            if signed {
+                wanted.extend([-1, -(1 << (wide - 1))]);
+                wanted.extend([-half - 1, -half, -half + 1]);
+                wanted.extend([(least << shift) - round - 1, (least << shift) - round]);
+            } else {
+                wanted.extend([1 << (wide - 1), (1 << wide) - 1]);
+            }
+            let ends = if signed {
+                -(1i128 << (wide - 1))..1 << (wide - 1)
+            } else {
+                0..1 << wide
+            };
+            for number in wanted {
+                if !ends.contains(&number) {
+                    continue;
                 }
-                let half = 1u128 << (shift - 1);
-                let cut = (1u128 << (size + shift)) - half;
-                let greatest = (1u128 << (2 * size)) - 1;
-                for edge in [0, half - 1, half, cut - 1, cut, greatest] {
-                    assert!(elements.contains(&edge), "{size} {shift} {edge:x}");
-                }
+                let element = (number & ((1 << wide) - 1)) as u128;
+                assert!(
+                    seen.contains(&element),
+                    "{bits:04b} {size} {shift} {element:x}"
+                );
             }
         }
+    }
+}
+
+/// Every word at every size and shift with Zn = Zd and with two registers.
+#[test]
+fn in_place_and_apart() {
+    for seed in SEEDS {
+        let mut asked = HashSet::new();
+        for (_, found) in done(&generate(seed)) {
+            if let Instruction::Narrow {
+                bits,
+                size,
+                shift,
+                zn,
+                zd,
+            } = found
+            {
+                asked.insert((bits, size, shift, zn == zd));
+            }
+        }
+        assert_eq!(asked.len(), 16 * 56 * 2);
     }
 }
 
@@ -278,7 +348,7 @@ fn numbers_and_text() {
             let bytes: [u8; STEP_QUESTION_BYTES] = line.as_bytes().try_into().unwrap();
             assert_eq!(read_step_question(&bytes), Ok(*question));
         }
-        assert!(counts[0] > 2500);
+        assert!(counts[0] > 11_000);
         assert!(counts[1..].iter().all(|&count| count >= 20), "{counts:?}");
     }
 }

@@ -28,6 +28,16 @@ impl List {
             .open(128, 0x457f_3800)
             .with_wide_element(0, 0, u64::MAX);
         self.add(question);
+        // The same elements for the whole family.
+        for bits in 0..16 {
+            for (word, elements) in [
+                (0x4528_0000, 0xff80_ff7f_0080_007f),
+                (0x457f_0000, u64::MAX),
+            ] {
+                let question = self.open(128, word | bits << 10);
+                self.add(question.with_wide_element(0, 0, elements));
+            }
+        }
         // PEXT1 of P8 to P0, at B and H, all portions.
         for counter in [0x0007, 0x8001, 0x0001, 0x8000, 0x8021, 0x0081] {
             for vl in [128, 256] {
@@ -140,15 +150,20 @@ impl List {
         }
     }
 
-    /// UQRSHRNB at every shift of every size, at every length.
+    /// Each narrowing word at every shift of every size, with Zn = Zd and not;
+    /// the lengths go around, so that each word and each shift meets them all.
     fn every_shift(&mut self) {
-        for size in [8, 16, 32] {
-            for shift in 1..=size {
-                for vl in VECTOR_LENGTHS {
-                    let mut fields = self.fields(Form::Uqrshrnb);
-                    fields[..2].copy_from_slice(&[size, shift]);
-                    let question = self.open_form(vl, Form::Uqrshrnb, fields);
-                    self.add(question);
+        for bits in 0..16 {
+            for size in [8, 16, 32] {
+                for shift in 1..=size {
+                    let zn = self.random.below(32);
+                    let other = self.register_apart(32, &[zn]);
+                    for (place, zd) in [(0, other), (2, zn)] {
+                        let vl = VECTOR_LENGTHS[(bits + shift + place) as usize % 5];
+                        let fields = [bits, size, shift, zn, zd, 0];
+                        let question = self.open_form(vl, Form::Narrow, fields);
+                        self.add(question);
+                    }
                 }
             }
         }

@@ -80,13 +80,15 @@ impl List {
         }
     }
 
-    /// Zd is Zn.
+    /// Zd is Zn, for each of the sixteen words.
     fn narrow_in_place(&mut self, vl: u32) {
-        for size in [8, 16, 32] {
-            for shift in [1, 1 + self.random.below(size), size] {
+        for bits in 0..16 {
+            for size in [8, 16, 32] {
+                let any = 1 + self.random.below(size);
+                let shift = self.random.pick(&[1, any, size]);
                 let register = self.random.below(32);
-                let fields = [size, shift, register, register, 0, 0];
-                let question = self.open_form(vl, Form::Uqrshrnb, fields);
+                let fields = [bits, size, shift, register, register, 0];
+                let question = self.open_form(vl, Form::Narrow, fields);
                 self.add(question);
             }
         }

@@ -16,6 +16,7 @@ impl List {
         self.every_flag();
         self.wrong_files();
         self.undefined_words();
+        self.family();
         self.competing_refusals();
     }
 
@@ -114,6 +115,37 @@ impl List {
             let question = self.open(vl, word);
             self.add(question);
         }
+    }
+
+    /// Each narrowing word with V closed and only V open, under either of its
+    /// features; without any; and with tszh:tszl 000.
+    fn family(&mut self) {
+        for bits in 0..16 {
+            for features in [1, 4] {
+                for number in [1, 6] {
+                    let mut question = self.narrowing(bits);
+                    question.start.setting.features = features;
+                    question.start.flags = flags(number);
+                    self.add(question);
+                }
+            }
+            let mut question = self.narrowing(bits);
+            question.start.setting.features = 0;
+            self.add(question);
+            let vl = self.any_length();
+            let (imm3, zn) = (self.random.below(8), self.random.below(32));
+            let zd = self.random.below(32);
+            let question = self.open(vl, samples::narrow_word(bits, imm3, zn, zd));
+            self.add(question);
+        }
+    }
+
+    /// A narrowing word with everything else in order.
+    fn narrowing(&mut self, bits: u32) -> StepQuestion {
+        let vl = self.any_length();
+        let mut fields = self.fields(Form::Narrow);
+        fields[0] = bits;
+        self.open_form(vl, Form::Narrow, fields)
     }
 
     /// Every set of reasons for a refusal together with every set of flags, so

@@ -1,4 +1,5 @@
-//! Document 01's table of what a word touches, written out once more by masks.
+//! Document 01's table of what a word touches, with request 1's T words,
+//! written out once more by masks.
 
 use reference::decode::decode;
 use reference::instruction::Form;
@@ -16,7 +17,9 @@ pub fn masks(word: u32) -> (u64, u64) {
         Form::Dup => (p(word >> 10) | p(word >> 5), p(word)),
         Form::Luti4c => (z(word >> 5), 15 << (word & 28)),
         Form::Luti4s => (z(word >> 5), 0x1111 << (word & 19)),
-        Form::Uqrshrnb => (z(word >> 5), z(word)),
+        // T, bit 10, also reads what it writes.
+        Form::Narrow if word & 0x400 != 0 => (z(word >> 5) | z(word), z(word)),
+        Form::Narrow => (z(word >> 5), z(word)),
     }
 }
 
