@@ -90,7 +90,7 @@ fn destinations_that_are_sources() {
             let dup = matching_word(&mut random, Form::Dup);
             let lookup = matching_word(&mut random, Form::Luti4c);
             let strided = matching_word(&mut random, Form::Luti4s);
-            let narrow = matching_word(&mut random, Form::Uqrshrnb);
+            let narrow = matching_word(&mut random, Form::Narrow);
             let pext = random.pick(&[Form::Pext1, Form::Pext2]);
             let pext = matching_word(&mut random, pext);
             for word in [
@@ -142,7 +142,7 @@ fn damaged_lengths() {
 fn every_setting() {
     for features in (0..300).chain([65567, 1 << 31, u32::MAX]) {
         for vl in [0, 64, 127, 128, 192, 256, 512, 1024, 2048, 4096, 65664] {
-            for word in [0x2520_7010, 0xc09a_9000, 0x4528_3800, 0] {
+            for word in [0x2520_7010, 0xc09a_9000, 0x4528_3800, 0x4528_2c00, 0] {
                 same_step(Setting { vl, features }, word, &mut Machine::zero());
             }
         }

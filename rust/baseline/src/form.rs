@@ -1,6 +1,7 @@
 //! The form of a word under all features.
 
-/// 1 to 6 in the order of document 01's table, 0 for an undefined word.
+/// 1 to 5 in the order of document 01's table, 6 to 21 for the narrowing words
+/// in the order of their bits op:U:R:T, 0 for an undefined word.
 ///
 /// Every test is made and the results are added up, since no branch can be
 /// guessed for words in no order. At most one of the tests holds.
@@ -15,19 +16,20 @@ pub fn form_of(word: u32) -> u32 {
     // size is 01
     let luti4s = word & 0xfffe_fc0c == 0xc09a_9000;
     // tszh:tszl is not 000
-    let uqrshrnb = (word & 0xffa0_fc00 == 0x4520_3800) & (word & 0x0058_0000 != 0);
+    let narrow = (word & 0xffa0_c000 == 0x4520_0000) & (word & 0x0058_0000 != 0);
     u32::from(pext1)
         + 2 * u32::from(pext2)
         + 3 * u32::from(dup)
         + 4 * u32::from(luti4c)
         + 5 * u32::from(luti4s)
-        + 6 * u32::from(uqrshrnb)
+        + (6 + (word >> 10 & 15)) * u32::from(narrow)
 }
 
 #[cfg(test)]
 mod tests {
     use super::*;
     use reference::decode::decode;
+    use reference::instruction::Instruction;
     use reference::samples::listing_words;
     use reference::setting::FULL;
 
@@ -41,8 +43,15 @@ mod tests {
         assert_eq!(form_of(0xc08a_b000), 0);
         assert_eq!(form_of(0xc09a_9000), 5);
         assert_eq!(form_of(0xc09a_a000), 0);
-        assert_eq!(form_of(0x4528_3800), 6);
+        assert_eq!(form_of(0x4528_3800), 20);
         assert_eq!(form_of(0x4520_3800), 0);
+    }
+
+    fn number(instruction: Instruction) -> u32 {
+        match instruction {
+            Instruction::Narrow { bits, .. } => 6 + bits,
+            other => other.form().number(),
+        }
     }
 
     /// Words by stride, and samples rich in matches.
@@ -50,7 +59,7 @@ mod tests {
     fn forms_of_the_reference() {
         let by_stride = (0..=u32::MAX).step_by(1021);
         for word in by_stride.chain(listing_words(4, 500_000)) {
-            let expected = decode(FULL, word).map_or(0, |found| found.form().number());
+            let expected = decode(FULL, word).map_or(0, number);
             assert_eq!(form_of(word), expected, "{word:08x}");
         }
     }

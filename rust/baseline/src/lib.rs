@@ -4,7 +4,7 @@
 //!
 //! - [`setting`]: allowed vector lengths and feature numbers
 //! - [`word`]: from a word to an instruction
-//! - [`predicates`], [`vectors`]: the operations on lent registers
+//! - [`predicates`], [`vectors`], [`narrow`]: the operations on lent registers
 //! - [`run`](mod@run): one word, and a stretch of them
 //!
 //! Answers are document 01's numbers. The binary `fastlist` beside it has its
@@ -12,6 +12,7 @@
 
 #![forbid(unsafe_code)]
 
+pub mod narrow;
 pub mod predicates;
 pub mod run;
 pub mod setting;

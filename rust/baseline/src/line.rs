@@ -14,14 +14,29 @@ struct Tail {
 }
 
 /// By the number of the form, 0 where there is none.
-static TAILS: [Tail; 7] = [
+static TAILS: [Tail; 22] = [
     tail(b" UNDEFINED\n"),
     tail(b" PEXT1\n"),
     tail(b" PEXT2\n"),
     tail(b" DUP\n"),
     tail(b" LUTI4C\n"),
     tail(b" LUTI4S\n"),
+    tail(b" SQSHRUNB\n"),
+    tail(b" SQSHRUNT\n"),
+    tail(b" SQRSHRUNB\n"),
+    tail(b" SQRSHRUNT\n"),
+    tail(b" SHRNB\n"),
+    tail(b" SHRNT\n"),
+    tail(b" RSHRNB\n"),
+    tail(b" RSHRNT\n"),
+    tail(b" SQSHRNB\n"),
+    tail(b" SQSHRNT\n"),
+    tail(b" SQRSHRNB\n"),
+    tail(b" SQRSHRNT\n"),
+    tail(b" UQSHRNB\n"),
+    tail(b" UQSHRNT\n"),
     tail(b" UQRSHRNB\n"),
+    tail(b" UQRSHRNT\n"),
 ];
 
 /// The two digits of every byte.
@@ -79,6 +94,7 @@ const fn digits() -> [[u8; 2]; 256] {
 #[cfg(test)]
 mod tests {
     use super::*;
+    use reference::instruction::NARROW_NAMES;
 
     fn line(word: u32, form: u32) -> String {
         let mut room = vec![b'x'; LINE_ROOM];
@@ -95,7 +111,10 @@ mod tests {
         assert_eq!(line(0x25e0_4000, 3), "25e04000 DUP\n");
         assert_eq!(line(0xc08a_9000, 4), "c08a9000 LUTI4C\n");
         assert_eq!(line(0xc09a_9000, 5), "c09a9000 LUTI4S\n");
-        assert_eq!(line(0x4528_3800, 6), "45283800 UQRSHRNB\n");
+        for (word, name) in (6..).zip(NARROW_NAMES) {
+            assert_eq!(line(0x4528_0000, word), format!("45280000 {name}\n"));
+        }
+        assert_eq!(TAILS.len(), 6 + NARROW_NAMES.len());
     }
 
     #[test]

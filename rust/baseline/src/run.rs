@@ -1,5 +1,6 @@
 //! One word, or a stretch of words, on lent files.
 
+use crate::narrow;
 use crate::predicates::{self, Predicates};
 use crate::setting::{SVE2P1, Setting};
 use crate::vectors::{self, Table, Vectors};
@@ -150,14 +151,9 @@ impl<'a> Machine<'a> {
                     vectors::luti4::<4>(self.z, self.zt0, i1, zn, zd, stride, vl);
                 }
             }
-            Instruction::Uqrshrnb {
-                size,
-                shift,
-                zn,
-                zd,
-            } => {
+            Instruction::Narrow(word) => {
                 open(scalars.v, 4)?;
-                vectors::uqrshrnb(self.z, size, shift, zn, zd, vl);
+                narrow::narrow(self.z, &word, vl);
             }
         }
         scalars.pc = scalars.pc.wrapping_add(4);

@@ -35,13 +35,23 @@ pub enum Instruction {
         zd: usize,
         stride: usize,
     },
-    /// The size is the result's.
-    Uqrshrnb {
-        size: usize,
-        shift: u32,
-        zn: usize,
-        zd: usize,
-    },
+    Narrow(Narrow),
+}
+
+/// A word of the narrowing family, with the bits op, U, R and T as they stand.
+/// The size is the result's.
+#[derive(Clone, Copy, Debug, PartialEq, Eq)]
+pub struct Narrow {
+    pub op: bool,
+    pub u: bool,
+    /// rounds
+    pub r: bool,
+    /// writes the odd elements
+    pub t: bool,
+    pub size: usize,
+    pub shift: u32,
+    pub zn: usize,
+    pub zd: usize,
 }
 
 /// Nothing where the word is undefined under these features.
@@ -99,7 +109,7 @@ pub fn decode(features: u32, word: u32) -> Option<Instruction> {
             zd: field(word, 0, 5),
             stride: 4,
         })
-    } else if word & 0xffa0_fc00 == 0x4520_3800 && has(SVE2 | SME) {
+    } else if word & 0xffa0_c000 == 0x4520_0000 && has(SVE2 | SME) {
         // tszh:tszl:imm3; tszh:tszl gives the size.
         let immediate = field(word, 22, 1) << 5 | field(word, 16, 5);
         let size = match immediate >> 3 {
@@ -108,12 +118,16 @@ pub fn decode(features: u32, word: u32) -> Option<Instruction> {
             2 | 3 => 16,
             _ => 32,
         };
-        Some(Instruction::Uqrshrnb {
+        Some(Instruction::Narrow(Narrow {
+            op: field(word, 13, 1) == 1,
+            u: field(word, 12, 1) == 1,
+            r: field(word, 11, 1) == 1,
+            t: field(word, 10, 1) == 1,
             size,
             shift: (2 * size - immediate) as u32,
             zn: field(word, 5, 5),
             zd: field(word, 0, 5),
-        })
+        }))
     } else {
         None
     }
