@@ -21,6 +21,12 @@
 extern "C" {
 #endif
 
+/* The version of this interface: of the functions, and of the numbers that go in and come out. Each change of it raises
+ * the number; what stood here before there was one counts as 1. The constant is what a program was compiled against,
+ * the function what it is linked with: where the two differ, the program should not go on. */
+#define GIGHULL_INTERFACE_VERSION 2
+uint32_t gighull_interface_version(void);
+
 /* W12 to W15, PC, and the access flags: V, S and T. */
 struct gighull_scalars {
     uint32_t w12;
@@ -70,13 +76,22 @@ uint32_t gighull_permitted(uint32_t vl, uint32_t features, const uint32_t *words
  *
  *   0 PEXT1     size imm2 counter Pd 0 0          3 LUTI4C    size i1 Zn Zd 0 0
  *   1 PEXT2     size i1 counter Pd 0 0            4 LUTI4S    size i1 Zn Zd 0 0
- *   2 DUP       size offset index Pg Pn Pd        5 UQRSHRNB  size shift Zn Zd 0 0
+ *   2 DUP       size offset index Pg Pn Pd        6 narrowing number size shift Zn Zd 0
  *
+ * The number of a narrowing word is its bits 13 to 10, op:U:R:T, as one number:
+ *
+ *   0 SQSHRUNB       4 SHRNB       8 SQSHRNB      12 UQSHRNB
+ *   1 SQSHRUNT       5 SHRNT       9 SQSHRNT      13 UQSHRNT
+ *   2 SQRSHRUNB      6 RSHRNB     10 SQRSHRNB     14 UQRSHRNB
+ *   3 SQRSHRUNT      7 RSHRNT     11 SQRSHRNT     15 UQRSHRNT
+ *
+ * (a word's name is in its line of gighull_lines). Form 5 was UQRSHRNB alone, in version 1, and is not used again.
  * `fields` stays as it was where the answer is not 0, and where its length is not 7 (the answer is the same). */
 uint32_t gighull_decode(uint32_t vl, uint32_t features, uint32_t word, uint32_t *fields, size_t fields_len);
 
-/* The word that seven numbers are written as. Answers 0, 1, 9 or 3; where it is not 0, `*word` is 0. A form above 5 and
- * a list of another length than 7 are 9. Of a form with four fields the last two numbers are not looked at. */
+/* The word that seven numbers are written as. Answers 0, 1, 9 or 3; where it is not 0, `*word` is 0. The form 5, a form
+ * above 6, a narrowing word's number above 15 and a list of another length than 7 are 9. Numbers after a form's own
+ * fields, where it has four or five, are not looked at. */
 uint32_t gighull_encode(uint32_t vl, uint32_t features, const uint32_t *fields, size_t fields_len, uint32_t *word);
 
 /* The VL/8 (VL/64) bytes of a Z (P) register of a vector (predicate) file, at the start of `out`; answers how many. The

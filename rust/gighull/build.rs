@@ -5,12 +5,20 @@
 //! minutes), and a warning says so. The environment variable
 //! GIGHULL_STATICLIB names a folder with another archive; that one is taken as
 //! it is, whatever its age, and a warning says so too.
+//!
+//! An archive whose interface has another version than the crate is written for
+//! is refused.
 
 use std::collections::BTreeSet;
 use std::fs;
 use std::path::{Path, PathBuf};
 use std::process::Command;
 use std::time::SystemTime;
+
+#[path = "src/version.rs"]
+mod version;
+
+use version::INTERFACE_VERSION;
 
 const ARCHIVE: &str = "libgighull.a";
 const OTHER_FOLDER: &str = "GIGHULL_STATICLIB";
@@ -26,8 +34,16 @@ fn main() {
         .unwrap_or_else(|error| panic!("{}: {error}", folder.display()));
     let archive = folder.join(ARCHIVE);
     println!("cargo::rerun-if-changed={}", archive.display());
+    println!("cargo::rerun-if-changed=src/version.rs");
+    let bytes = fs::read(&archive).unwrap_or_else(|error| panic!("{}: {error}", archive.display()));
+    let version = version_of(&archive, &bytes);
+    assert!(
+        version == INTERFACE_VERSION,
+        "{} has version {version} of the interface, and this crate is for {INTERFACE_VERSION}",
+        archive.display()
+    );
     println!("cargo::rustc-env=GIGHULL_ARCHIVE={}", archive.display());
-    println!("cargo::rustc-env=GIGHULL_ARCHIVE_HASH={}", hash(&archive));
+    println!("cargo::rustc-env=GIGHULL_ARCHIVE_HASH={}", hash(&bytes));
     println!("cargo::rustc-link-search=native={}", folder.display());
     println!("cargo::rustc-link-lib=static=gighull");
 }
@@ -107,9 +123,36 @@ fn sources(root: &Path) -> Vec<PathBuf> {
     sources
 }
 
+/// What the archive says of itself, by a program that asks it. One without the
+/// function is older than the numbers, and counts as 1.
+fn version_of(archive: &Path, bytes: &[u8]) -> u32 {
+    const FUNCTION: &str = "gighull_interface_version";
+    if !bytes
+        .windows(FUNCTION.len())
+        .any(|part| part == FUNCTION.as_bytes())
+    {
+        return 1;
+    }
+    let folder = PathBuf::from(std::env::var_os("OUT_DIR").expect("cargo sets OUT_DIR"));
+    let (page, program) = (folder.join("version.c"), folder.join("version"));
+    let text = format!(
+        "#include <stdio.h>\nunsigned {FUNCTION}(void);\n\
+         int main(void) {{ printf(\"%u\", {FUNCTION}()); return 0; }}\n"
+    );
+    fs::write(&page, text).unwrap_or_else(|error| panic!("{}: {error}", page.display()));
+    let mut compiler = Command::new("cc");
+    compiler.arg(&page).arg(archive).arg("-o").arg(&program);
+    let compiled = compiler.status().expect("a C compiler is there");
+    assert!(compiled.success(), "cc: {compiled}");
+    let asked = Command::new(&program).output();
+    let answer = asked.unwrap_or_else(|error| panic!("{}: {error}", program.display()));
+    let text = String::from_utf8_lossy(&answer.stdout).into_owned();
+    text.parse()
+        .unwrap_or_else(|_| panic!("{}: {text:?} is no version", archive.display()))
+}
+
 /// FNV-1a of the archive's bytes, for figures to name it by.
-fn hash(archive: &Path) -> String {
-    let bytes = fs::read(archive).unwrap_or_else(|error| panic!("{}: {error}", archive.display()));
+fn hash(bytes: &[u8]) -> String {
     let hash = bytes.iter().fold(0xcbf2_9ce4_8422_2325_u64, |hash, &byte| {
         (hash ^ u64::from(byte)).wrapping_mul(0x0000_0100_0000_01b3)
     });

@@ -3,12 +3,13 @@ ghost use mathlib.Core.Path.{_≡_};
 ghost use Rattle.setting.specs.Numbers.{accept};
 ghost use Rattle.element.specs.Units.{sizeAt};
 ghost use Rattle.encoding.specs.Decode.{readAt, decodedAs};
-ghost use Rattle.encoding.specs.declared.Instruction.the-variants.{Pext1, Pext2, Luti4c, Luti4s, Uqrshrnb};
+ghost use Rattle.encoding.specs.declared.Instruction.the-variants.{Pext1, Pext2, Luti4c, Luti4s};
 ghost use Rattle.encoding.specs.Rows.{rows};
-ghost use Rattle.fields.specs.Operands.{dupAs};
+ghost use Rattle.fields.specs.Operands.{dupAs, narrowAs};
 use encoding::Decoded;
 use encoding::Instruction;
 use fields::DupOperands;
+use fields::NarrowOperands;
 use fields::Operands;
 use setting::Answer;
 
@@ -56,14 +57,18 @@ fn luti4s(o: Operands) -> Decoded
     })
 }
 
-fn uqrshrnb(o: Operands) -> Decoded
-    ensures { λ r. ⌜ decodedAs r ≡ accept (Uqrshrnb (o .size) (o .immediate) (o .source) (o .destination)) ⌝ }
+fn narrow(o: NarrowOperands) -> Decoded
+    ensures { λ r. ⌜ decodedAs r ≡ accept (narrowAs o) ⌝ }
 {
-    Decoded::Fields(Instruction::Uqrshrnb {
+    Decoded::Fields(Instruction::Narrow {
+        op: o.op,
+        u: o.u,
+        r: o.r,
+        t: o.t,
         size: o.size,
-        shift: o.immediate,
-        zn: o.source,
-        zd: o.destination,
+        shift: o.shift,
+        zn: o.zn,
+        zd: o.zd,
     })
 }
 
@@ -101,7 +106,7 @@ pub(crate) fn read(place: usize, word: u32) -> Decoded
         2 => dup(fields::dup(word)),
         3 => luti4c(fields::luti4c(word)),
         4 => luti4s(fields::luti4s(word)),
-        5 => uqrshrnb(fields::uqrshrnb(word)),
+        5 => narrow(fields::narrow(word)),
         _ => Decoded::Refused(Answer::Undefined),
     }
 }

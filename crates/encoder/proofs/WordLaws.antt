@@ -1,6 +1,6 @@
 -- What the sums of `words` ask of fields in range, and that each sum is the word of its layout: digits at their places, by linear arithmetic.
 use mathlib.Core.Path.{_≡_, sym, ap, _∙_}
-use mathlib.Core.Bool.{true, _&&_, _||_}
+use mathlib.Core.Bool.{Bool, true, _&&_, _||_}
 use mathlib.Core.List.{[]}
 use Prim.Native.Nat.{ℕ, _+_, _-_, _*_, _%_, _/_, _<_, _≤_}
 use native.Mathlib.Omega.{arith}
@@ -9,12 +9,12 @@ use borrow.Author.Tests.{eqb-true, leb-true}
 use Rattle.element.specs.Units.{logOf}
 use Rattle.element.proofs.Tests.{both-yes}
 use Rattle.encoding.specs.Layout.{wordOf, fixedOf}
-use Rattle.encoding.specs.Instructions.{pextInRange, inRange, rawDupBits, rawOf}
+use Rattle.encoding.specs.Instructions.{pextInRange, inRange, rawDupBits, narrowNumber, rawOf}
 use Rattle.encoding.specs.Places.{layoutAt}
-use Rattle.encoding.specs.Rows.{rowOf, placeOf, pext1, pext2, dup, luti4c, luti4s, uqrshrnb}
+use Rattle.encoding.specs.Rows.{rowOf, placeOf, pext1, pext2, dup, luti4c, luti4s, narrow}
 use Rattle.encoding.specs.declared.Instruction.{Instruction}
-use Rattle.encoding.specs.declared.Instruction.the-variants.{Pext1, Pext2, Dup, Luti4c, Luti4s, Uqrshrnb}
-use Rattle.encoding.proofs.FieldBits.{luti-size, strided-zd, narrow-bits, narrow-cases}
+use Rattle.encoding.specs.declared.Instruction.the-variants.{Pext1, Pext2, Dup, Luti4c, Luti4s, Narrow}
+use Rattle.encoding.proofs.FieldBits.{luti-size, strided-zd, narrow-bits, narrow-cases, digit-lt}
 use Rattle.encoding.proofs.InRange.{pext-ranges, luti-ranges, narrow-ranges}
 use Rattle.encoding.proofs.Round.{column-at-place}
 
@@ -41,12 +41,13 @@ luti4s-asks size i1 zn zd raw e h =
     let d = strided-zd zd (r .3) in
     (rw (e, eqb-true size 16 (r .0)) (lit< tt), r .1, r .2, omega arith)
 
-pub narrow-asks : (size shift zn zd : ℕ) → inRange (Uqrshrnb size shift zn zd) ≡ true → (size ≤ 32) × (shift ≤ size) × (2 * size - shift < 64) × (zn < 32) × (zd < 32)
-narrow-asks size shift zn zd h =
-    let r = narrow-ranges size shift zn zd h in
-    let s : size ≤ 32 = narrow-cases (λ n. n ≤ 32) (lit≤ tt) (lit≤ tt) (lit≤ tt) size (r .0) in
-    let k = leb-true shift size (both-yes (leb 1 shift) (leb shift size) (r .1) .1) in
-    (s, k, narrow-bits size (r .0) shift (r .1) .lt, r .2, r .3)
+pub narrow-asks : (op u r t : Bool) (size shift zn zd bits : ℕ) → bits ≡ narrowNumber op u r t → inRange (Narrow op u r t size shift zn zd) ≡ true
+    → (bits < 16) × (size ≤ 32) × (shift ≤ size) × (2 * size - shift < 64) × (zn < 32) × (zd < 32)
+narrow-asks op u r t size shift zn zd bits e h =
+    let g = narrow-ranges size shift zn zd h in
+    let s : size ≤ 32 = narrow-cases (λ n. n ≤ 32) (lit≤ tt) (lit≤ tt) (lit≤ tt) size (g .0) in
+    let k = leb-true shift size (both-yes (leb 1 shift) (leb shift size) (g .1) .1) in
+    (omega (arith, digit-lt op, digit-lt u, digit-lt r, digit-lt t), s, k, narrow-bits size (g .0) shift (g .1) .lt, g .2, g .3)
 
 -- ---- with the fixed bits the sums are the words
 pub pext1-sum : (size imm2 counter pd raw w : ℕ) → raw ≡ logOf size → w ≡ raw * 0x400000 + imm2 * 0x100 + (counter - 8) * 32 + pd
@@ -73,9 +74,10 @@ pub luti4s-sum : (size i1 zn zd raw w : ℕ) → raw ≡ logOf size → w ≡ i1
     → fixedOf (luti4s .layout) + w ≡ wordOf (luti4s .layout) (rawOf (Luti4s size i1 zn zd))
 luti4s-sum size i1 zn zd raw w e q = omega arith
 
-pub uqrshrnb-sum : (size shift zn zd w : ℕ) → w ≡ (2 * size - shift) / 32 * 0x400000 + (2 * size - shift) % 32 * 0x10000 + zn * 32 + zd
-    → fixedOf (uqrshrnb .layout) + w ≡ wordOf (uqrshrnb .layout) (rawOf (Uqrshrnb size shift zn zd))
-uqrshrnb-sum size shift zn zd w q = omega arith
+pub narrow-sum : (op u r t : Bool) (size shift zn zd bits w : ℕ) → bits ≡ narrowNumber op u r t
+    → w ≡ (2 * size - shift) / 32 * 0x400000 + (2 * size - shift) % 32 * 0x10000 + bits * 0x400 + zn * 32 + zd
+    → fixedOf (narrow .layout) + w ≡ wordOf (narrow .layout) (rawOf (Narrow op u r t size shift zn zd))
+narrow-sum op u r t size shift zn zd bits w e q = omega arith
 
 -- ---- the fixed bits from the table
 pub with-fixed-bits : (i : Instruction) (y : ℕ) {k x : ℕ} → k ≡ placeOf i → x ≡ fixedOf (layoutAt k) → fixedOf (rowOf i .layout) + y ≡ wordOf (rowOf i .layout) (rawOf i)

@@ -79,11 +79,12 @@ pub(crate) fn in_range(instruction: Instruction) -> bool
         Instruction::Luti4s { size, i1, zn, zd } => {
             luti(size == 16, i1, zn, (zd < 4) | ((16 <= zd) & (zd < 20)))
         }
-        Instruction::Uqrshrnb {
+        Instruction::Narrow {
             size,
             shift,
             zn,
             zd,
+            ..
         } => narrow(size, shift, zn, zd),
     }
 }

@@ -7,6 +7,7 @@ ghost use Rattle.encoding.specs.Instructions.{rawDupBits, inRange, rawOf};
 ghost use Rattle.encoding.specs.Rows.{rowOf};
 use element::log_of;
 use encoding::Instruction;
+use encoding::narrow_number;
 use encoding::table;
 
 // DUP's i1:tszh:tszl.
@@ -40,12 +41,13 @@ fn luti(raw: u32, i1: u32, zn: u32, zd: u32) -> u32
     i1 * 0x10000 + raw * 0x1000 + zn * 32 + zd
 }
 
-fn narrow(size: u32, shift: u32, zn: u32, zd: u32) -> u32
-    requires { ⌜ (size ≤ 32) × (shift ≤ size) × (2 * size - shift < 64) × (zn < 32) × (zd < 32) ⌝ }
-    ensures { λ r. ⌜ r ≡ (2 * size - shift) / 32 * 0x400000 + (2 * size - shift) % 32 * 0x10000 + zn * 32 + zd ⌝ }
+// The bits are op:U:R:T.
+fn narrow(bits: u32, size: u32, shift: u32, zn: u32, zd: u32) -> u32
+    requires { ⌜ (bits < 16) × (size ≤ 32) × (shift ≤ size) × (2 * size - shift < 64) × (zn < 32) × (zd < 32) ⌝ }
+    ensures { λ r. ⌜ r ≡ (2 * size - shift) / 32 * 0x400000 + (2 * size - shift) % 32 * 0x10000 + bits * 0x400 + zn * 32 + zd ⌝ }
 {
-    let bits = 2 * size - shift;
-    bits / 32 * 0x400000 + bits % 32 * 0x10000 + zn * 32 + zd
+    let raw = 2 * size - shift;
+    raw / 32 * 0x400000 + raw % 32 * 0x10000 + bits * 0x400 + zn * 32 + zd
 }
 
 // The fields alone, each at its place.
@@ -76,12 +78,16 @@ fn fields_of(instruction: Instruction) -> u32
         } => dup(dup_bits(size, offset), index, pg, pn, pd),
         Instruction::Luti4c { size, i1, zn, zd } => luti(log_of(size), i1, zn, zd),
         Instruction::Luti4s { size, i1, zn, zd } => luti(log_of(size), i1, zn, zd),
-        Instruction::Uqrshrnb {
+        Instruction::Narrow {
+            op,
+            u,
+            r,
+            t,
             size,
             shift,
             zn,
             zd,
-        } => narrow(size, shift, zn, zd),
+        } => narrow(narrow_number(op, u, r, t), size, shift, zn, zd),
     }
 }
 

@@ -1,4 +1,4 @@
--- The starred cases on reading words: each computes, and under every setting only the feature of LUTI4S is left open.
+-- The starred cases on reading words and the names of the narrowing words: each computes, and under every setting only the feature of LUTI4S is left open.
 use mathlib.Core.Path.{_≡_, refl}
 use mathlib.Core.Bool.{true, false}
 use lib.Count.{trailingZeros}
@@ -10,6 +10,7 @@ use Rattle.element.specs.Size.{sizeOf}
 use Rattle.encoding.specs.Decode.{decodeOf}
 use Rattle.logic.specs.Every.{Every}
 use Rattle.encoding.specs.Points.{readingPoints}
+use Rattle.encoding.specs.NarrowWords.{NarrowNamed}
 use Rattle.encoding.specs.declared.Instruction.the-variants.{Luti4s}
 use Rattle.encoding.proofs.Apart.{decide}
 
@@ -24,6 +25,10 @@ strided-missing s a h = simp (a, h)
 never-strided-words : (s : Setting) → allowedOf s ≡ true → decodeOf s 0xc09aa000 ≡ refuse 3
 unfolding decodeOf
 never-strided-words s a = decide (hasFeature (s .features) Sme2p1) (λ h. simp (a, h)) (λ h. simp (a, h))
+
+pub narrow-named : NarrowNamed
+unfolding decodeOf allowedOf
+narrow-named = refl
 
 pub reading-points : Every readingPoints
 unfolding decodeOf allowedOf sizeOf trailingZeros

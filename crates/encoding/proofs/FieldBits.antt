@@ -1,4 +1,4 @@
--- Element sizes, DUP's offset, a strided Zd and UQRSHRNB's shift as the bits that say them, and back: by cases on the sizes, and by tests over all values of the bits.
+-- Element sizes, DUP's offset, a strided Zd, a narrowing word's shift and a flag as the bits that say them, and back: by cases on the sizes, and by tests over all values of the bits.
 use mathlib.Core.Path.{_≡_, refl, ap}
 use mathlib.Core.Bool.{Bool, true, false, not, _&&_, _||_}
 use Prim.Native.Nat.{ℕ, zero, suc, _+_, _-_, _*_, _%_, _/_, _^_, _<_, _≤_}
@@ -8,15 +8,30 @@ use lib.Count.{trailingZeros}
 use borrow.Author.Tests.{eqb-true, ltb-true, leb-true, lt-ltb, le-ltb, le-leb}
 use Rattle.element.specs.Size.{sizeOf, isSize, isResult}
 use Rattle.element.specs.Units.{logOf}
+use Rattle.element.specs.Contents.{digit}
 use Rattle.element.proofs.Below.{both, is-true, below}
 use Rattle.element.proofs.Tests.{both-yes}
 use Rattle.element.proofs.Units.{size-cases}
-use Rattle.encoding.specs.Instructions.{isZ, narrowInRange, dupOffset, rawDupBits, narrowSize}
+use Rattle.encoding.specs.Instructions.{isZ, narrowInRange, dupOffset, rawDupBits, narrowSize, isSet}
 use Rattle.encoding.proofs.Apart.{decide}
 
 or-right : (a b : Bool) → a ≡ false → T (a || b) → T b
 or-right true b e t = let z : _≡_ {A = ℕ} 0 1 = cc in absurd (omega arith)
 or-right false b e t = t
+
+-- ---- a field of one bit
+pub digit-lt : (b : Bool) → digit b < 2
+digit-lt true = lit< tt
+digit-lt false = lit< tt
+
+pub set-digit : (b : Bool) → isSet (digit b) ≡ b
+set-digit true = refl
+set-digit false = refl
+
+pub digit-set : (n : ℕ) → n < 2 → digit (isSet n) ≡ n
+digit-set zero h = refl
+digit-set (suc zero) h = refl
+digit-set (suc (suc n)) h = absurd (omega arith)
 
 -- ---- element sizes
 pub log-size : (s : ℕ) → s < 4 → (logOf (8 * 2 ^ s) ≡ s) × (isSize (8 * 2 ^ s) ≡ true)
@@ -101,7 +116,7 @@ zd-strided (suc zero) d hD hd =
     simp (le-ltb (16 * 1 + d) 4 n, le-leb 16 (16 * 1 + d) g, lt-ltb (16 * 1 + d) 20 l)
 zd-strided (suc (suc D)) d hD hd = absurd (omega arith)
 
--- ---- UQRSHRNB: the bits tszh:tszl:imm3, by a test over all of them and one over the shifts of each size
+-- ---- the narrowing words: the bits tszh:tszl:imm3, by a test over all of them and one over the shifts of each size
 shift-bits : ℕ → ℕ → Bool
 shift-bits n k = not (leb 1 k && leb k n) || (ltb (2 * n - k) 64 && not (eqb ((2 * n - k) / 8) 0) && (eqb (narrowSize ((2 * n - k) / 8)) n && eqb (2 * n - (2 * n - k)) k))
 

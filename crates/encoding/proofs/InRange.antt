@@ -13,9 +13,9 @@ use Rattle.element.proofs.Units.{log-is, size-is}
 use Rattle.encoding.specs.Instructions.{isP, isZ, pextInRange, dupInRange, lutiInRange, narrowInRange, inRange, rawDupBits, rawOf}
 use Rattle.encoding.specs.Rows.{rowOf}
 use Rattle.encoding.specs.declared.Instruction.{Instruction}
-use Rattle.encoding.specs.declared.Instruction.the-variants.{Pext1, Pext2, Dup, Luti4c, Luti4s, Uqrshrnb}
+use Rattle.encoding.specs.declared.Instruction.the-variants.{Pext1, Pext2, Dup, Luti4c, Luti4s, Narrow}
 use Rattle.encoding.proofs.LayoutLaws.{Fit}
-use Rattle.encoding.proofs.FieldBits.{DupBits, dup-bits, luti-size, strided-zd, narrow-bits}
+use Rattle.encoding.proofs.FieldBits.{DupBits, dup-bits, luti-size, strided-zd, narrow-bits, digit-lt, set-digit}
 
 -- the fields that it is written with fit its row, meet its condition, and are read as it
 pub record Reads (i : Instruction) : Type 0 where
@@ -107,7 +107,7 @@ luti4s-reads size i1 zn zd e =
     let back-zd : 16 * (zd / 16) + zd % 16 ≡ zd = omega arith in
     rw (eqb-true size 16 (r .0)) (record { fit = (lit< tt, (lit< tt, (r .1, (lit< tt, (lit< tt, (lit< tt, (r .2, (d .0, (lit< tt, (d .1, tt)))))))))); holds = refl; back = ap (Luti4s 16 i1 zn) back-zd })
 
--- ---- UQRSHRNB
+-- ---- the narrowing words
 pub narrow-ranges : (size shift zn zd : ℕ) → narrowInRange size shift zn zd ≡ true
     → (isResult size ≡ true) × ((leb 1 shift && leb shift size) ≡ true) × (zn < 32) × (zd < 32)
 narrow-ranges size shift zn zd e =
@@ -116,17 +116,17 @@ narrow-ranges size shift zn zd e =
     let z = both-yes (isZ zn) (isZ zd) (a .1) in
     (b .0, b .1, ltb-true zn 32 (z .0), ltb-true zd 32 (z .1))
 
-narrow-reads : (size shift zn zd : ℕ) → inRange (Uqrshrnb size shift zn zd) ≡ true → Reads (Uqrshrnb size shift zn zd)
-narrow-reads size shift zn zd e =
+narrow-reads : (op u r t : Bool) (size shift zn zd : ℕ) → inRange (Narrow op u r t size shift zn zd) ≡ true → Reads (Narrow op u r t size shift zn zd)
+narrow-reads op u r t size shift zn zd e =
     let b = narrow-ranges size shift zn zd e in
-    let r = narrow-bits size (b .0) shift (b .1) in
+    let n = narrow-bits size (b .0) shift (b .1) in
     let v = 2 * size - shift in
     let tsz : v / 32 * 4 + v / 8 % 4 ≡ v / 8 = omega arith in
     let all-bits : v / 8 * 8 + v % 8 ≡ v = omega arith in
     record {
-      fit = (lit< tt, (omega (arith, r .lt), (lit< tt, (omega arith, (omega arith, (lit< tt, (lit< tt, (b .2, (b .3, tt)))))))));
-      holds = rw tsz (r .some);
-      back = simp (tsz, all-bits, r .size-back, r .shift-back);
+      fit = (lit< tt, (omega (arith, n .lt), (lit< tt, (omega arith, (omega arith, (lit< tt, (digit-lt op, (digit-lt u, (digit-lt r, (digit-lt t, (b .2, (b .3, tt))))))))))));
+      holds = rw tsz (n .some);
+      back = simp (tsz, all-bits, n .size-back, n .shift-back, set-digit op, set-digit u, set-digit r, set-digit t);
     }
 
 -- ---- every form
@@ -148,7 +148,7 @@ in-range-reads (Pext2 size i1 counter pd) e =
 in-range-reads (Dup size offset index pg pn pd) e = dup-reads size offset index pg pn pd (dup-ranges size offset index pg pn pd e)
 in-range-reads (Luti4c size i1 zn zd) e = luti4c-reads size i1 zn zd e
 in-range-reads (Luti4s size i1 zn zd) e = luti4s-reads size i1 zn zd e
-in-range-reads (Uqrshrnb size shift zn zd) e = narrow-reads size shift zn zd e
+in-range-reads (Narrow op u r t size shift zn zd) e = narrow-reads op u r t size shift zn zd e
 
 -- what is known of the instruction in an arm
 pub known-range : {i j : Instruction} → i ≡ j → inRange i ≡ true → inRange j ≡ true

@@ -7,3 +7,4 @@ pub mod WrittenBack
 pub mod Columns
 pub mod Round
 pub mod BoardPoints
+pub mod FourBits

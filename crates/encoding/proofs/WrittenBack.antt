@@ -8,9 +8,9 @@ use lib.Dec.{eqb}
 use borrow.Author.Tests.{eq-eqb, eqb-true, lt-ltb, le-leb, not-true}
 use Rattle.encoding.specs.Layout.{fieldsOf}
 use Rattle.encoding.specs.Instructions.{pextInRange, inRange, rawPext, rawOf}
-use Rattle.encoding.specs.Rows.{Row, pext1, pext2, dup, luti4c, luti4s, uqrshrnb}
+use Rattle.encoding.specs.Rows.{Row, pext1, pext2, dup, luti4c, luti4s, narrow}
 use Rattle.encoding.specs.declared.Instruction.{Instruction}
-use Rattle.encoding.proofs.FieldBits.{log-size, dup-read, size-luti, zd-strided, ShiftRead, narrow-read}
+use Rattle.encoding.proofs.FieldBits.{log-size, dup-read, size-luti, zd-strided, ShiftRead, narrow-read, digit-set}
 
 -- an instruction in range whose fields are xs
 pub record Writes (i : Instruction) (xs : List ℕ) : Type 0 where
@@ -62,18 +62,18 @@ luti4s-writes i1 s zn D d hi hn hD hd e =
     let back-d : (16 * D + d) % 16 ≡ d = omega arith in
     rw (eqb-true s 1 e) (record { range = simp (lt-ltb i1 2 hi, lt-ltb zn 32 hn, zd-strided D d hD hd); back = ap₂ (λ (x y : ℕ). i1 ∷ 1 ∷ zn ∷ x ∷ y ∷ []) back-D back-d })
 
-narrow-writes : (h l m zn zd : ℕ) → h < 2 → l < 4 → m < 8 → zn < 32 → zd < 32 → not (eqb (h * 4 + l) 0) ≡ true
-    → Writes (uqrshrnb .reading (h ∷ l ∷ m ∷ zn ∷ zd ∷ [])) (h ∷ l ∷ m ∷ zn ∷ zd ∷ [])
-narrow-writes h l m zn zd hh hl hm hn hd e =
+narrow-writes : (h l m op u r t zn zd : ℕ) → h < 2 → l < 4 → m < 8 → op < 2 → u < 2 → r < 2 → t < 2 → zn < 32 → zd < 32 → not (eqb (h * 4 + l) 0) ≡ true
+    → Writes (narrow .reading (h ∷ l ∷ m ∷ op ∷ u ∷ r ∷ t ∷ zn ∷ zd ∷ [])) (h ∷ l ∷ m ∷ op ∷ u ∷ r ∷ t ∷ zn ∷ zd ∷ [])
+narrow-writes h l m op u r t zn zd hh hl hm ho hu hr ht hn hd e =
     let v = (h * 4 + l) * 8 + m in
     let tsz : v / 8 ≡ h * 4 + l = omega arith in
-    let r = subst (λ (x : ℕ). ShiftRead x v) tsz (narrow-read v (omega arith) (rw tsz (not-true (eqb (h * 4 + l) 0) e))) in
+    let n = subst (λ (x : ℕ). ShiftRead x v) tsz (narrow-read v (omega arith) (rw tsz (not-true (eqb (h * 4 + l) 0) e))) in
     let back-h : v / 32 ≡ h = omega arith in
     let back-l : v / 8 % 4 ≡ l = omega arith in
     let back-m : v % 8 ≡ m = omega arith in
     record {
-      range = simp (r .size, r .shift, lt-ltb zn 32 hn, lt-ltb zd 32 hd);
-      back = simp (r .back, back-h, back-l, back-m);
+      range = simp (n .size, n .shift, lt-ltb zn 32 hn, lt-ltb zd 32 hd);
+      back = simp (n .back, back-h, back-l, back-m, digit-set op ho, digit-set u hu, digit-set r hr, digit-set t ht);
     }
 
 -- ---- every row
@@ -102,6 +102,7 @@ luti4c-row-writes w e = luti4c-writes (w / 0x10000 % 2) (w / 0x1000 % 4) (w / 32
 pub luti4s-row-writes : RowWrites luti4s
 luti4s-row-writes w e = luti4s-writes (w / 0x10000 % 2) (w / 0x1000 % 4) (w / 32 % 32) (w / 16 % 2) (w / 1 % 4) (omega arith) (omega arith) (omega arith) (omega arith) e
 
-pub uqrshrnb-row-writes : RowWrites uqrshrnb
-uqrshrnb-row-writes w e =
-    narrow-writes (w / 0x400000 % 2) (w / 0x80000 % 4) (w / 0x10000 % 8) (w / 32 % 32) (w / 1 % 32) (omega arith) (omega arith) (omega arith) (omega arith) (omega arith) e
+pub narrow-row-writes : RowWrites narrow
+narrow-row-writes w e =
+    narrow-writes (w / 0x400000 % 2) (w / 0x80000 % 4) (w / 0x10000 % 8) (w / 0x2000 % 2) (w / 0x1000 % 2) (w / 0x800 % 2) (w / 0x400 % 2) (w / 32 % 32) (w / 1 % 32)
+    (omega arith) (omega arith) (omega arith) (omega arith) (omega arith) (omega arith) (omega arith) (omega arith) (omega arith) e

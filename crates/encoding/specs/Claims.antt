@@ -1,4 +1,4 @@
--- What `claims` promises of the definitions: a word is undefined exactly when no row matches it, and decoding and encoding undo each other wherever neither is refused.
+-- What `claims` promises of the definitions: a word is undefined exactly when no row matches it, decoding and encoding undo each other wherever neither is refused, and the narrowing words are read and named in the manual's order.
 use mathlib.Core.Path.{_≡_}
 use mathlib.Core.Bool.{Bool, true, false}
 use mathlib.Core.List.{List, [], _∷_}
@@ -13,6 +13,7 @@ use Rattle.encoding.specs.Decode.{decodeOf}
 use Rattle.encoding.specs.Encode.{written, encodeOf}
 use Rattle.logic.specs.Every.{Every}
 use Rattle.encoding.specs.Points.{readingPoints}
+use Rattle.encoding.specs.NarrowWords.{NarrowNamed}
 use Rattle.encoding.specs.declared.Instruction.{Instruction}
 
 -- no row of the list passes the test
@@ -49,3 +50,4 @@ pub record Claims : Type 0 where
   pub decode-encode : DecodeEncode
   pub encode-decode : EncodeDecode
   pub points : Every readingPoints
+  pub narrow-named : NarrowNamed

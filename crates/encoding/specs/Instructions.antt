@@ -7,8 +7,9 @@ use lib.ListN.{getD}
 use Rattle.logic.specs.Pick.{pick}
 use Rattle.element.specs.Size.{zeros, sizeOf, isSize, isResult}
 use Rattle.element.specs.Units.{logOf}
+use Rattle.element.specs.Contents.{digit}
 use Rattle.encoding.specs.declared.Instruction.{Instruction}
-use Rattle.encoding.specs.declared.Instruction.the-variants.{Pext1, Pext2, Dup, Luti4c, Luti4s, Uqrshrnb}
+use Rattle.encoding.specs.declared.Instruction.the-variants.{Pext1, Pext2, Dup, Luti4c, Luti4s, Narrow}
 
 -- ---- reading
 -- raw field i, counted from the highest
@@ -42,16 +43,25 @@ readLuti4c xs = Luti4c (8 * 2 ^ raw xs 1) (raw xs 0) (raw xs 2) (4 * raw xs 3)
 abbrev pub readLuti4s : List ℕ → Instruction
 readLuti4s xs = Luti4s (8 * 2 ^ raw xs 1) (raw xs 0) (raw xs 2) (16 * raw xs 3 + raw xs 4)
 
--- UQRSHRNB's tszh:tszl 001, 01x, 1xx say result sizes 8, 16, 32
+-- the narrowing words' tszh:tszl 001, 01x, 1xx say result sizes 8, 16, 32
 abbrev pub narrowSize : ℕ → ℕ
 narrowSize tsz = pick (ltb tsz 2) 8 (pick (ltb tsz 4) 16 32)
 
 abbrev pub narrowTsz : List ℕ → ℕ
 narrowTsz xs = raw xs 0 * 4 + raw xs 1
 
--- tszh, tszl, imm3, Zn, Zd
-abbrev pub readUqrshrnb : List ℕ → Instruction
-readUqrshrnb xs = Uqrshrnb (narrowSize (narrowTsz xs)) (2 * narrowSize (narrowTsz xs) - (narrowTsz xs * 8 + raw xs 2)) (raw xs 3) (raw xs 4)
+-- a field of one bit
+abbrev pub isSet : ℕ → Bool
+isSet bit = eqb bit 1
+
+-- tszh, tszl, imm3, op, U, R, T, Zn, Zd
+abbrev pub readNarrow : List ℕ → Instruction
+readNarrow xs =
+    Narrow (isSet (raw xs 3)) (isSet (raw xs 4)) (isSet (raw xs 5)) (isSet (raw xs 6)) (narrowSize (narrowTsz xs)) (2 * narrowSize (narrowTsz xs) - (narrowTsz xs * 8 + raw xs 2)) (raw xs 7) (raw xs 8)
+
+-- op:U:R:T as one number
+abbrev pub narrowNumber : Bool → Bool → Bool → Bool → ℕ
+narrowNumber op u r t = 8 * digit op + (4 * digit u + (2 * digit r + digit t))
 
 -- ---- ranges for writing
 -- P registers and Z registers
@@ -79,7 +89,7 @@ inRange (Pext2 size i1 counter pd) = pextInRange 2 size i1 counter pd
 inRange (Dup size offset index pg pn pd) = dupInRange size offset index pg pn pd
 inRange (Luti4c size i1 zn zd) = lutiInRange (eqb size 16 || eqb size 32) i1 zn (eqb (zd % 4) 0 && leb zd 28)
 inRange (Luti4s size i1 zn zd) = lutiInRange (eqb size 16) i1 zn (ltb zd 4 || (leb 16 zd && ltb zd 20))
-inRange (Uqrshrnb size shift zn zd) = narrowInRange size shift zn zd
+inRange (Narrow op u r t size shift zn zd) = narrowInRange size shift zn zd
 
 -- ---- the raw fields that are read as these; the field of a size of 8 · 2^z bits is z
 abbrev pub rawPext : ℕ → ℕ → ℕ → ℕ → List ℕ
@@ -93,8 +103,8 @@ abbrev pub rawDup : ℕ → ℕ → ℕ → ℕ → ℕ → List ℕ
 rawDup t index pg pn pd = t / 16 ∷ (t / 8 % 2) ∷ (t % 8) ∷ (index - 12) ∷ pg ∷ pn ∷ pd ∷ []
 
 -- tszh:tszl:imm3 is twice the size less the shift
-abbrev pub rawNarrow : ℕ → ℕ → ℕ → List ℕ
-rawNarrow v zn zd = v / 32 ∷ (v / 8 % 4) ∷ (v % 8) ∷ zn ∷ zd ∷ []
+abbrev pub rawNarrow : Bool → Bool → Bool → Bool → ℕ → ℕ → ℕ → List ℕ
+rawNarrow op u r t v zn zd = v / 32 ∷ (v / 8 % 4) ∷ (v % 8) ∷ digit op ∷ digit u ∷ digit r ∷ digit t ∷ zn ∷ zd ∷ []
 
 abbrev pub rawOf : Instruction → List ℕ
 rawOf (Pext1 size imm2 counter pd) = rawPext size imm2 counter pd
@@ -102,4 +112,4 @@ rawOf (Pext2 size i1 counter pd) = rawPext size i1 counter pd
 rawOf (Dup size offset index pg pn pd) = rawDup (rawDupBits size offset) index pg pn pd
 rawOf (Luti4c size i1 zn zd) = i1 ∷ logOf size ∷ zn ∷ (zd / 4) ∷ []
 rawOf (Luti4s size i1 zn zd) = i1 ∷ logOf size ∷ zn ∷ (zd / 16) ∷ (zd % 16) ∷ []
-rawOf (Uqrshrnb size shift zn zd) = rawNarrow (2 * size - shift) zn zd
+rawOf (Narrow op u r t size shift zn zd) = rawNarrow op u r t (2 * size - shift) zn zd

@@ -1,9 +1,12 @@
 pub mod Layout
 pub mod Instructions
+pub mod Names
 pub mod Rows
 pub mod Decode
 pub mod Encode
 pub mod Places
+pub mod Named
 pub mod Points
+pub mod NarrowWords
 pub mod Claims
 pub mod Private

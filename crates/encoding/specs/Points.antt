@@ -7,7 +7,7 @@ use Rattle.setting.specs.Numbers.{accept, refuse}
 use Rattle.setting.specs.declared.Feature.the-variants.{Sme2p1}
 use Rattle.setting.specs.declared.Setting.{Setting}
 use Rattle.encoding.specs.Decode.{decodeOf}
-use Rattle.encoding.specs.declared.Instruction.the-variants.{Dup, Luti4c, Luti4s, Uqrshrnb}
+use Rattle.encoding.specs.declared.Instruction.the-variants.{Dup, Luti4c, Luti4s, Narrow}
 
 -- VL 128, all features on
 abbrev pub board : Setting
@@ -24,10 +24,10 @@ readingPoints =
     ∷ ((s : Setting) → allowedOf s ≡ true → hasFeature (s .features) Sme2p1 ≡ false → decodeOf s 0xc09a9000 ≡ refuse 3)
     ∷ ((s : Setting) → allowedOf s ≡ true → decodeOf s 0xc09aa000 ≡ refuse 3)
     -- 3: 45283800, 452f3800, 45603800, 457f3800, 45203800
-    ∷ (decodeOf board 0x45283800 ≡ accept (Uqrshrnb 8 8 0 0))
-    ∷ (decodeOf board 0x452f3800 ≡ accept (Uqrshrnb 8 1 0 0))
-    ∷ (decodeOf board 0x45603800 ≡ accept (Uqrshrnb 32 32 0 0))
-    ∷ (decodeOf board 0x457f3800 ≡ accept (Uqrshrnb 32 1 0 0))
+    ∷ (decodeOf board 0x45283800 ≡ accept (Narrow true true true false 8 8 0 0))
+    ∷ (decodeOf board 0x452f3800 ≡ accept (Narrow true true true false 8 1 0 0))
+    ∷ (decodeOf board 0x45603800 ≡ accept (Narrow true true true false 32 32 0 0))
+    ∷ (decodeOf board 0x457f3800 ≡ accept (Narrow true true true false 32 1 0 0))
     ∷ (decodeOf board 0x45203800 ≡ refuse 3)
     -- 10, its reading: 252c4000, 25e04000
     ∷ (decodeOf board 0x252c4000 ≡ accept (Dup 8 1 12 0 0 0))

@@ -1,4 +1,4 @@
--- Document 01, "Layouts": the six rows of the table, each a layout with its features, its field condition, what its fields are read as, and its name.
+-- Document 01, "Layouts", the last as document 02, request 1, has it: the six rows of the table, each a layout with its features, its field condition, what its fields are read as, and its name.
 use mathlib.Core.Bool.{Bool, true, not, _&&_, _||_}
 use mathlib.Core.List.{List, [], _∷_}
 use Prim.Native.Nat.{ℕ, _+_, _*_}
@@ -7,9 +7,10 @@ use Rattle.setting.specs.Allowed.{hasAny}
 use Rattle.setting.specs.declared.Feature.{Feature}
 use Rattle.setting.specs.declared.Feature.the-variants.{Sve2, Sve2p1, Sme, Sme2, Sme2p1}
 use Rattle.encoding.specs.Layout.{Piece, fix, var, fieldsOf, matches}
-use Rattle.encoding.specs.Instructions.{raw, readPext1, readPext2, readDup, readLuti4c, readLuti4s, narrowTsz, readUqrshrnb}
+use Rattle.encoding.specs.Instructions.{raw, readPext1, readPext2, readDup, readLuti4c, readLuti4s, narrowTsz, readNarrow}
+use Rattle.encoding.specs.Names.{narrowName}
 use Rattle.encoding.specs.declared.Instruction.{Instruction}
-use Rattle.encoding.specs.declared.Instruction.the-variants.{Pext1, Pext2, Dup, Luti4c, Luti4s, Uqrshrnb}
+use Rattle.encoding.specs.declared.Instruction.the-variants.{Pext1, Pext2, Dup, Luti4c, Luti4s, Narrow}
 
 pub record Row : Type 0 where
   pub layout : List Piece
@@ -75,19 +76,19 @@ luti4s = record {
   name = λ xs. 76 ∷ 85 ∷ 84 ∷ 73 ∷ 52 ∷ 83 ∷ [];
 }
 
--- 010001010 <tszh> 1 <tszl:2> <imm3> 00 1110 <Zn:5> <Zd:5>; tszh:tszl not 000
-abbrev pub uqrshrnb : Row
-uqrshrnb = record {
-  layout = fix 9 0b010001010 ∷ var 1 ∷ fix 1 0b1 ∷ var 2 ∷ var 3 ∷ fix 2 0b00 ∷ fix 4 0b1110 ∷ var 5 ∷ var 5 ∷ [];
+-- 010001010 <tszh> 1 <tszl:2> <imm3> 00 <op> <U> <R> <T> <Zn:5> <Zd:5>; tszh:tszl not 000
+abbrev pub narrow : Row
+narrow = record {
+  layout = fix 9 0b010001010 ∷ var 1 ∷ fix 1 0b1 ∷ var 2 ∷ var 3 ∷ fix 2 0b00 ∷ var 1 ∷ var 1 ∷ var 1 ∷ var 1 ∷ var 5 ∷ var 5 ∷ [];
   features = Sve2 ∷ Sme ∷ [];
   condition = λ xs. not (eqb (narrowTsz xs) 0);
-  reading = readUqrshrnb;
-  -- UQRSHRNB
-  name = λ xs. 85 ∷ 81 ∷ 82 ∷ 83 ∷ 72 ∷ 82 ∷ 78 ∷ 66 ∷ [];
+  reading = readNarrow;
+  -- SQSHRUNB to UQRSHRNT
+  name = narrowName;
 }
 
 abbrev pub rows : List Row
-rows = pext1 ∷ pext2 ∷ dup ∷ luti4c ∷ luti4s ∷ uqrshrnb ∷ []
+rows = pext1 ∷ pext2 ∷ dup ∷ luti4c ∷ luti4s ∷ narrow ∷ []
 
 -- the row of an instruction's form, and its place in the table, from 0
 abbrev pub rowOf : Instruction → Row
@@ -96,7 +97,7 @@ rowOf (Pext2 size i1 counter pd) = pext2
 rowOf (Dup size offset index pg pn pd) = dup
 rowOf (Luti4c size i1 zn zd) = luti4c
 rowOf (Luti4s size i1 zn zd) = luti4s
-rowOf (Uqrshrnb size shift zn zd) = uqrshrnb
+rowOf (Narrow op u r t size shift zn zd) = narrow
 
 abbrev pub placeOf : Instruction → ℕ
 placeOf (Pext1 size imm2 counter pd) = 0
@@ -104,7 +105,7 @@ placeOf (Pext2 size i1 counter pd) = 1
 placeOf (Dup size offset index pg pn pd) = 2
 placeOf (Luti4c size i1 zn zd) = 3
 placeOf (Luti4s size i1 zn zd) = 4
-placeOf (Uqrshrnb size shift zn zd) = 5
+placeOf (Narrow op u r t size shift zn zd) = 5
 
 -- the row's layout, feature and field condition all match the word
 abbrev pub rowMatches : Row → ℕ → ℕ → Bool

@@ -2,6 +2,7 @@
 pub mod table;
 
 ghost use mathlib.Core.Path.{_≡_};
+ghost use Rattle.encoding.specs.Instructions.{narrowNumber};
 ghost use Rattle.encoding.specs.Rows.{placeOf};
 ghost use Rattle.encoding.specs.Claims.{Claims};
 use setting::Answer;
@@ -40,7 +41,12 @@ pub enum Instruction {
         zn: u32,
         zd: u32,
     },
-    Uqrshrnb {
+    // The sixteen narrowing words, by document 004's bits.
+    Narrow {
+        op: bool,
+        u: bool,
+        r: bool,
+        t: bool,
         size: u32,
         shift: u32,
         zn: u32,
@@ -69,8 +75,15 @@ pub fn place(instruction: Instruction) -> usize
         Instruction::Dup { .. } => 2,
         Instruction::Luti4c { .. } => 3,
         Instruction::Luti4s { .. } => 4,
-        Instruction::Uqrshrnb { .. } => 5,
+        Instruction::Narrow { .. } => 5,
     }
+}
+
+// A narrowing word's op:U:R:T as one number.
+pub fn narrow_number(op: bool, u: bool, r: bool, t: bool) -> u32
+    ensures { λ n. ⌜ n ≡ narrowNumber op u r t ⌝ }
+{
+    8 * (op as u32) + (4 * (u as u32) + (2 * (r as u32) + (t as u32)))
 }
 
 // The theorems about these definitions. It does nothing: its promise has the check demand their proofs.

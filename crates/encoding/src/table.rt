@@ -15,7 +15,7 @@ const MASKS: [u32; ROWS] = [
     0xff20c210,
     0xfffecc03,
     0xfffecc0c,
-    0xffa0fc00,
+    0xffa0c000,
 ];
 
 const FIXED: [u32; ROWS] = [
@@ -24,14 +24,45 @@ const FIXED: [u32; ROWS] = [
     0x25204000,
     0xc08a8000,
     0xc09a8000,
-    0x45203800,
+    0x45200000,
 ];
 
-// The names, 16 bytes for each row and 16 for no row: as they follow a word's digits in a listing, and how long that is.
-pub const NAMES: [u8; 16 * (ROWS + 1)] =
-    *b" PEXT1\n......... PEXT2\n......... DUP\n........... LUTI4C\n........ LUTI4S\n........ UQRSHRNB\n...... UNDEFINED\n.....";
+// The names: of the rows that have one, in their order, of the narrowing words by op:U:R:T, and of no row.
+pub const NAMES: usize = 22;
 
-pub const NAME_LENGTHS: [usize; ROWS + 1] = [7, 7, 5, 8, 8, 10, 11];
+// Each in 16 bytes, as it follows a word's digits in a listing, and how long that is.
+pub const NAME_TEXTS: [u8; 16 * NAMES] =
+    *b" PEXT1\n......... PEXT2\n......... DUP\n........... LUTI4C\n........ LUTI4S\n........ \
+        SQSHRUNB\n...... SQSHRUNT\n...... SQRSHRUNB\n..... SQRSHRUNT\n..... \
+        SHRNB\n......... SHRNT\n......... RSHRNB\n........ RSHRNT\n........ \
+        SQSHRNB\n....... SQSHRNT\n....... SQRSHRNB\n...... SQRSHRNT\n...... \
+        UQSHRNB\n....... UQSHRNT\n....... UQRSHRNB\n...... UQRSHRNT\n...... \
+        UNDEFINED\n.....";
+
+pub const NAME_LENGTHS: [usize; NAMES] = [
+    7,
+    7,
+    5,
+    8,
+    8,
+    10,
+    10,
+    11,
+    11,
+    7,
+    7,
+    8,
+    8,
+    9,
+    9,
+    10,
+    10,
+    9,
+    9,
+    10,
+    10,
+    11,
+];
 
 // Whether the word has every fixed bit of the layout at a place of the table; no past its end.
 pub fn has_layout(place: usize, word: u32) -> bool

@@ -1,3 +1,4 @@
+pub mod Version
 pub mod Numbers
 pub mod Fields
 pub mod Buffers

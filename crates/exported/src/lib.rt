@@ -1,4 +1,4 @@
-// What crosses the C interface as numbers: a reply, the seven numbers of a word, and a register's bytes in a lent buffer.
+// What crosses the C interface as numbers: its version, a reply, the seven numbers of a word, and a register's bytes in a lent buffer.
 pub mod replies;
 
 ghost use mathlib.Core.Path.{_≡_};
@@ -9,10 +9,18 @@ ghost use Rattle.listing.specs.Buffer.{Wrote};
 ghost use Rattle.exported.specs.Numbers.{numberIn};
 ghost use Rattle.exported.specs.Fields.{readInto, refusedOf, writeOf};
 ghost use Rattle.exported.specs.Buffers.{fitting};
+ghost use Rattle.exported.specs.Version.{interfaceVersion};
 use encoding::Decoded;
 use encoding::Encoded;
 use setting::Answer;
 use setting::Setting;
+
+// The number of the interface.
+pub fn interface_version() -> u32
+    ensures { λ r. ⌜ r ≡ interfaceVersion ⌝ }
+{
+    2
+}
 
 // The number of a reading, and its fields in a list of seven.
 pub fn read(decoded: Decoded, fields: &mut [u32]) -> u32

@@ -6,10 +6,10 @@ ghost use Rattle.element.specs.Units.{logOf, sizeAt};
 ghost use Rattle.encoding.specs.Instructions.{narrowSize};
 ghost use Rattle.encoding.specs.Rows.{rows};
 ghost use Rattle.encoding.specs.Decode.{readAt};
-ghost use Rattle.encoding.specs.declared.Instruction.the-variants.{Pext1, Pext2, Luti4c, Luti4s, Uqrshrnb};
-ghost use Rattle.fields.specs.Operands.{dupAs};
+ghost use Rattle.encoding.specs.declared.Instruction.the-variants.{Pext1, Pext2, Luti4c, Luti4s};
+ghost use Rattle.fields.specs.Operands.{dupAs, narrowAs};
 
-// The fields of every form but DUP, the size by its log too; the immediate is a portion, i1 or a shift.
+// The fields of PEXT and LUTI4, the size by its log too; the immediate is a portion or i1.
 pub struct Operands {
     pub size: u32,
     pub log: u32,
@@ -26,6 +26,18 @@ pub struct DupOperands {
     pub pg: u32,
     pub pn: u32,
     pub pd: u32,
+}
+
+// The narrowing words'; the size is the result's.
+pub struct NarrowOperands {
+    pub op: bool,
+    pub u: bool,
+    pub r: bool,
+    pub t: bool,
+    pub size: u32,
+    pub shift: u32,
+    pub zn: u32,
+    pub zd: u32,
 }
 
 // The element size of a size field of two bits, which is its log.
@@ -50,7 +62,7 @@ fn luti_size(word: u32) -> u32
     word / 0x1000 % 4
 }
 
-// UQRSHRNB's tszh:tszl, and the result size that it says.
+// The narrowing words' tszh:tszl, and the result size that it says.
 fn narrow_tsz(word: u32) -> u32
     ensures { λ r. ⌜ r ≡ word / 0x400000 % 2 * 4 + word / 0x80000 % 4 ⌝ }
 {
@@ -153,18 +165,20 @@ pub fn luti4s(word: u32) -> Operands
     }
 }
 
-pub fn uqrshrnb(word: u32) -> Operands
-    ensures { λ r. ⌜ (accept (Uqrshrnb (r .size) (r .immediate) (r .source) (r .destination)) ≡ readAt rows 5 word) × (r .log ≡ logOf (r .size)) ⌝ }
+pub fn narrow(word: u32) -> NarrowOperands
+    ensures { λ r. ⌜ accept (narrowAs r) ≡ readAt rows 5 word ⌝ }
 {
     let tsz = narrow_tsz(word);
     let size = narrow_size(tsz);
-    let log = element::log_of(size);
-    let immediate = 2 * size - (tsz * 8 + word / 0x10000 % 8);
-    Operands {
+    let shift = 2 * size - (tsz * 8 + word / 0x10000 % 8);
+    NarrowOperands {
+        op: word / 0x2000 % 2 == 1,
+        u: word / 0x1000 % 2 == 1,
+        r: word / 0x800 % 2 == 1,
+        t: word / 0x400 % 2 == 1,
         size,
-        log,
-        immediate,
-        source: word / 32 % 32,
-        destination: word % 32,
+        shift,
+        zn: word / 32 % 32,
+        zd: word % 32,
     }
 }

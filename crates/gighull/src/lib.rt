@@ -12,10 +12,19 @@ ghost use Rattle.console.specs.Parts.{vectorOf, predicateOf};
 ghost use Rattle.exported.specs.Numbers.{numberIn, yesIn};
 ghost use Rattle.exported.specs.Fields.{readInto, writeOf};
 ghost use Rattle.exported.specs.Buffers.{fitting};
+ghost use Rattle.exported.specs.Version.{interfaceVersion};
 ghost use Rattle.gighull.specs.Calls.{settingOf, writtenAs, listedAs};
 use exported::replies;
 use machine::Scalars;
 use setting::Setting;
+
+// Raised at each change of this interface: a program asks it before it trusts its own header.
+#[no_mangle]
+pub extern "C" fn gighull_interface_version() -> u32
+    ensures { λ r. ⌜ r ≡ interfaceVersion ⌝ }
+{
+    exported::interface_version()
+}
 
 // One word on the lent machine. The record is advanced where it stands.
 #[no_mangle]

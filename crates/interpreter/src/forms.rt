@@ -121,17 +121,21 @@ pub(crate) fn luti4s(
     )
 }
 
-pub(crate) fn uqrshrnb(z: &mut [u8], setting: Setting, v: bool, word: u32) -> Answer
+pub(crate) fn narrow(z: &mut [u8], setting: Setting, v: bool, word: u32) -> Answer
     ensures { λ r. ⌜ TablelessWord 5 setting word (HasV v) r (now (z .entry)) (now (z .exit)) ⌝ }
 {
-    let o = fields::uqrshrnb(word);
-    words::uqrshrnb(
+    let o = fields::narrow(word);
+    words::narrow(
         z,
         setting.vl,
         v,
+        o.op,
+        o.u,
+        o.r,
+        o.t,
         o.size,
-        o.immediate,
-        o.source,
-        o.destination,
+        o.shift,
+        o.zn,
+        o.zd,
     )
 }

@@ -108,7 +108,7 @@ fn step_in_run(
         ),
         3 => forms::luti4c(z, zt, setting, scalars.s, scalars.t, word),
         4 => forms::luti4s(z, zt, setting, scalars.s, scalars.t, word),
-        5 => forms::uqrshrnb(z, setting, scalars.v, word),
+        5 => forms::narrow(z, setting, scalars.v, word),
         _ => Answer::Undefined,
     }
 }

@@ -11,8 +11,7 @@ use Rattle.element.proofs.Below.{both, below}
 use Rattle.text.specs.Text.{glyphOf}
 use Rattle.text.specs.Lines.{nameLine}
 use Rattle.listing.specs.Buffer.{Wrote}
-use Rattle.listing.specs.Private.{Begins, nameAt, Pairs, Tails}
-use Rattle.encoding.specs.Rows.{rows}
+use Rattle.listing.specs.Private.{Begins, names, nameAt, Pairs, Tails}
 use Rattle.listing.proofs.Begins.{begins-over}
 
 abbrev pub highs : List ℕ → ℕ → Bool
@@ -54,34 +53,34 @@ abbrev pub counts : List ℕ → ℕ → Bool
 counts lengths i = eqb (getD lengths i 0) (length (nameLine (nameAt i)))
 
 abbrev pub starts : List ℕ → List ℕ → ℕ → Bool
-starts names lengths i = same (take (getD lengths i 0) (take 11 (drop (16 * i) names))) (nameLine (nameAt i))
+starts texts lengths i = same (take (getD lengths i 0) (take 11 (drop (16 * i) texts))) (nameLine (nameAt i))
 
 abbrev pub longs : List ℕ → ℕ → Bool
 longs lengths i = ltb 4 (getD lengths i 0)
 
-pub tails-right : (names lengths : List ℕ)
-    → length names ≡ 16 * suc (length rows)
-    → T (all (counts lengths) (suc (length rows)))
-    → T (all (starts names lengths) (suc (length rows)))
-    → T (all (longs lengths) (suc (length rows)))
-    → Tails names lengths
-tails-right names lengths e c s l =
+pub tails-right : (texts lengths : List ℕ)
+    → length texts ≡ 16 * suc (length names)
+    → T (all (counts lengths) (suc (length names)))
+    → T (all (starts texts lengths) (suc (length names)))
+    → T (all (longs lengths) (suc (length names)))
+    → Tails texts lengths
+tails-right texts lengths e c s l =
     record {
       size = e;
       begins =
           λ i h.
           record {
-            count = eqb→eq (getD lengths i 0) (length (nameLine (nameAt i))) (below (counts lengths) (suc (length rows)) c i (omega arith));
-            start = same-eq _ (nameLine (nameAt i)) (below (starts names lengths) (suc (length rows)) s i (omega arith));
+            count = eqb→eq (getD lengths i 0) (length (nameLine (nameAt i))) (below (counts lengths) (suc (length names)) c i (omega arith));
+            start = same-eq _ (nameLine (nameAt i)) (below (starts texts lengths) (suc (length names)) s i (omega arith));
           };
-      minimum = λ i h. ltb→lt 4 (getD lengths i 0) (below (longs lengths) (suc (length rows)) l i (omega arith));
+      minimum = λ i h. ltb→lt 4 (getD lengths i 0) (below (longs lengths) (suc (length names)) l i (omega arith));
     }
 
 -- the row at i, as a function meets it that lends the part from 16 * i to 16 * i + 11
-pub name-begins : (i : ℕ) {names lengths out after : List ℕ} {k : ℕ}
-    → Tails names lengths
-    → i ≤ length rows
-    → Wrote (take (16 * i + 11 - 16 * i) (drop (16 * i) names)) out after k
+pub name-begins : (i : ℕ) {texts lengths out after : List ℕ} {k : ℕ}
+    → Tails texts lengths
+    → i ≤ length names
+    → Wrote (take (16 * i + 11 - 16 * i) (drop (16 * i) texts)) out after k
     → (Begins (nameLine (nameAt i)) after (getD lengths i 0)) × (5 ≤ getD lengths i 0)
 name-begins i {out = out} t h w =
     let e : 16 * i + 11 - 16 * i ≡ 11 = omega arith in

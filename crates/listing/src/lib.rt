@@ -3,17 +3,15 @@ ghost use mathlib.Core.Path.{_≡_};
 ghost use Prim.Native.Nat.{_*_, _/_, _%_, _≤_, _<_, min};
 ghost use lib.ListN.{length, take};
 ghost use Rattle.text.specs.Text.{glyphOf, hexDigits};
-ghost use Rattle.encoding.specs.Rows.{rows};
+ghost use Rattle.logic.specs.Pick.{pick};
 ghost use Rattle.text.specs.Name.{nameOf};
 ghost use Rattle.text.specs.Lines.{nameLine, wordOfBytes, linesOf};
 ghost use Rattle.listing.specs.Buffer.{Wrote, listedOf, outOf, carriedOf};
-ghost use Rattle.listing.specs.Private.{Begins, Began, nameAt, Pairs, Tails};
+ghost use Rattle.listing.specs.Private.{Begins, Began, names, nameAt, Pairs, Tails};
 use encoding::table;
+use encoding::table::NAMES;
 use encoding::table::ROWS;
 use setting::Setting;
-
-// A name for each row, and one for no row.
-const COUNT: usize = ROWS + 1;
 
 // How many bytes of the input were listed, and how many bytes of text that gave.
 pub struct Listed {
@@ -21,17 +19,26 @@ pub struct Listed {
     pub written: usize,
 }
 
-// The place of the word's name in the table.
-fn name_index(word: u32) -> usize
-    ensures { λ r. ⌜ (nameAt r ≡ nameOf word) × (r ≤ length rows) ⌝ }
+// Its number where the test holds, else 0, without a jump.
+fn where_so(test: bool, number: usize) -> usize
+    ensures { λ r. ⌜ r ≡ pick test number 0 ⌝ }
 {
-    decoder::form(
+    if test { number } else { 0 }
+}
+
+// The place of the word's name in the table: its form's, a narrowing word's by op:U:R:T, or that of no name behind them all.
+fn name_index(word: u32) -> usize
+    ensures { λ r. ⌜ (nameAt r ≡ nameOf word) × (r ≤ length names) ⌝ }
+{
+    let place = decoder::form(
         Setting {
             vl: 128,
             features: 31,
         },
         word,
-    )
+    );
+    let bits = (word / 0x400 % 16) as usize;
+    place + (where_so(place == 5, bits) + where_so(place == ROWS, 15))
 }
 
 // The high digit of the low byte of n, and the low one. The table is lent, so that all words share one.
@@ -90,47 +97,47 @@ fn short(left: &[u8], out: &mut [u8]) -> usize
 }
 
 // The name, all 11 bytes that there may be of it: a jump on i would be mispredicted.
-fn tail(names: &[u8], lengths: &[usize; COUNT], i: usize, out: &mut [u8]) -> usize
-    requires { ⌜ (Tails (now names) (now lengths)) × (i ≤ length rows) × (length (now out) ≡ 11) ⌝ }
+fn tail(texts: &[u8], lengths: &[usize; NAMES], i: usize, out: &mut [u8]) -> usize
+    requires { ⌜ (Tails (now texts) (now lengths)) × (i ≤ length names) × (length (now out) ≡ 11) ⌝ }
     ensures { λ r. ⌜ (Begins (nameLine (nameAt i)) (now (out .exit)) r) × (5 ≤ r) ⌝ }
 {
     let at = 16 * i;
     let end = at + 11;
-    put(&names[at..end], out);
+    put(&texts[at..end], out);
     lengths[i]
 }
 
 // The line of one record, and behind it up to six bytes of no meaning.
 fn wide_line(
     pairs: &[u8; 512],
-    names: &[u8],
-    lengths: &[usize; COUNT],
+    texts: &[u8],
+    lengths: &[usize; NAMES],
     quad: &[u8],
     out: &mut [u8],
 ) -> usize
-    requires { ⌜ (Pairs (now pairs)) × (Tails (now names) (now lengths)) × (length (now quad) ≡ 4) × (length (now out) ≡ 19) ⌝ }
+    requires { ⌜ (Pairs (now pairs)) × (Tails (now texts) (now lengths)) × (length (now quad) ≡ 4) × (length (now out) ≡ 19) ⌝ }
     ensures { λ r. ⌜ (Begins (linesOf (now (quad .entry))) (now (out .exit)) r) × (13 ≤ r) ⌝ }
 {
     let w = word(quad[0], quad[1], quad[2], quad[3]);
     hex(pairs, w, &mut out[..8]);
     let i = name_index(w);
-    let n = tail(names, lengths, i, &mut out[8..19]);
+    let n = tail(texts, lengths, i, &mut out[8..19]);
     8 + n
 }
 
 // The same, and nothing behind it: the rest of out stays.
 fn line(
     pairs: &[u8; 512],
-    names: &[u8],
-    lengths: &[usize; COUNT],
+    texts: &[u8],
+    lengths: &[usize; NAMES],
     quad: &[u8],
     out: &mut [u8],
 ) -> usize
-    requires { ⌜ (Pairs (now pairs)) × (Tails (now names) (now lengths)) × (length (now quad) ≡ 4) × (length (now out) ≡ 19) ⌝ }
+    requires { ⌜ (Pairs (now pairs)) × (Tails (now texts) (now lengths)) × (length (now quad) ≡ 4) × (length (now out) ≡ 19) ⌝ }
     ensures { λ r. ⌜ Wrote (linesOf (now (quad .entry))) (now (out .entry)) (now (out .exit)) r ⌝ }
 {
     let mut text = [0u8; 19];
-    let n = wide_line(pairs, names, lengths, quad, &mut text);
+    let n = wide_line(pairs, texts, lengths, quad, &mut text);
     put(&text[..n], out)
 }
 
@@ -138,13 +145,13 @@ fn line(
 // those of the one before.
 fn wide_lines(
     pairs: &[u8; 512],
-    names: &[u8],
-    lengths: &[usize; COUNT],
+    texts: &[u8],
+    lengths: &[usize; NAMES],
     input: &[u8],
     out: &mut [u8],
     n: usize,
 ) -> usize
-    requires { ⌜ (Pairs (now pairs)) × (Tails (now names) (now lengths)) × (4 * n ≤ length (now input)) × (19 * n ≤ length (now out)) ⌝ }
+    requires { ⌜ (Pairs (now pairs)) × (Tails (now texts) (now lengths)) × (4 * n ≤ length (now input)) × (19 * n ≤ length (now out)) ⌝ }
     ensures { λ r. ⌜ (Began (linesOf (take (4 * n) (now (input .entry)))) (now (out .entry)) (now (out .exit)) r) × (r ≤ 19 * n) ⌝ }
 {
     let mut i = 0;
@@ -153,7 +160,7 @@ fn wide_lines(
     while i < n {
         let next = from + 4;
         let end = at + 19;
-        at += wide_line(pairs, names, lengths, &input[from..next], &mut out[at..end]);
+        at += wide_line(pairs, texts, lengths, &input[from..next], &mut out[at..end]);
         from = next;
         i += 1;
     }
@@ -177,13 +184,13 @@ fn records(input: &[u8], out: &mut [u8], n: usize) -> usize
         a0a1a2a3a4a5a6a7a8a9aaabacadaeafb0b1b2b3b4b5b6b7b8b9babbbcbdbebf\
         c0c1c2c3c4c5c6c7c8c9cacbcccdcecfd0d1d2d3d4d5d6d7d8d9dadbdcdddedf\
         e0e1e2e3e4e5e6e7e8e9eaebecedeeeff0f1f2f3f4f5f6f7f8f9fafbfcfdfeff";
-    let names = &table::NAMES;
+    let texts = &table::NAME_TEXTS;
     let lengths = &table::NAME_LENGTHS;
     let from = 4 * (n - 1);
     let next = 4 * n;
-    let at = wide_lines(pairs, names, lengths, input, out, n - 1);
+    let at = wide_lines(pairs, texts, lengths, input, out, n - 1);
     let end = at + 19;
-    let more = line(pairs, names, lengths, &input[from..next], &mut out[at..end]);
+    let more = line(pairs, texts, lengths, &input[from..next], &mut out[at..end]);
     at + more
 }
 

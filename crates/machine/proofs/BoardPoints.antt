@@ -9,8 +9,8 @@ use Rattle.element.specs.Contents.{bytes, field, fill, gather, octet, packed}
 use Rattle.encoding.specs.Decode.{decodeOf}
 use Rattle.encoding.specs.Points.{readingPoints}
 use Rattle.encoding.proofs.BoardPoints.{reading-points}
-use Rattle.narrow.specs.Points.{narrowPoints}
-use Rattle.narrow.proofs.BoardPoints.{narrow-points}
+use Rattle.narrowing.specs.Points.{narrowPoints}
+use Rattle.narrowing.proofs.Board.{starred as narrow-points}
 use Rattle.counter.specs.Points.{counterPoints}
 use Rattle.counter.proofs.BoardPoints.{counter-points}
 use Rattle.pext.specs.Points.{pextPoints}
@@ -18,7 +18,11 @@ use Rattle.pext.proofs.BoardPoints.{pext-points}
 use Rattle.dup.specs.Dup.{indexOf, valueOf, dupBit, dupOf}
 use Rattle.dup.specs.Points.{dupPoints}
 use Rattle.dup.proofs.BoardPoints.{dup-points}
-use Rattle.machine.specs.Points.{elementPoints, starred}
+use Rattle.machine.specs.Points.{elementPoints, narrowTouches, starred}
+
+pub narrow-touches : Every narrowTouches
+unfolding decodeOf allowedOf
+narrow-touches = (refl, (refl, (refl, tt)))
 
 every-append : (As Bs : List (Type 0)) → Every As → Every Bs → Every (As ++ Bs)
 every-append [] Bs x y = y

@@ -16,11 +16,12 @@ use Rattle.order.specs.Banks.{Register}
 use Rattle.order.specs.Touch.{puts}
 use Rattle.encoding.specs.Instructions.{inRange}
 use Rattle.encoding.specs.declared.Instruction.{Instruction}
-use Rattle.encoding.specs.declared.Instruction.the-variants.{Pext1, Pext2, Dup, Luti4c, Luti4s, Uqrshrnb}
+use Rattle.encoding.specs.declared.Instruction.the-variants.{Pext1, Pext2, Dup, Luti4c, Luti4s, Narrow}
 use Rattle.encoding.proofs.FieldBits.{strided-zd}
 use Rattle.encoding.proofs.InRange.{pext-ranges, dup-ranges, luti-ranges, narrow-ranges}
 use Rattle.machine.specs.Machine.{Machine, Z, ZT0, put, Flags}
 use Rattle.machine.specs.Needs.{Need, need}
+use Rattle.machine.specs.Narrow.{narrowReads}
 use Rattle.machine.specs.Effects.{effectOf}
 
 -- no need has a greater number
@@ -53,6 +54,11 @@ by-feature false f = tt
 -- LUTI4's source, the table and four destinations a gap apart, of which the last is a register
 four-known : (zn a gap : ℕ) → zn < 32 → a + 3 * gap < 32 → Known (Z zn) × Known ZT0 × Known (Z a) × Known (Z (a + gap)) × Known (Z (a + 2 * gap)) × Known (Z (a + 3 * gap))
 four-known zn a gap h l = (h, omega arith, omega arith, omega arith, omega arith, l)
+
+-- a narrowing word's sources
+narrow-known : (t : Bool) (zn zd : ℕ) → zn < 32 → zd < 32 → AllKnown (narrowReads t zn zd)
+narrow-known true zn zd hn hd = (hn, (hd, tt))
+narrow-known false zn zd hn hd = (hn, tt)
 
 pub fine : (i : Instruction) → Fine i
 unfolding puts put
@@ -94,9 +100,9 @@ fine (Luti4s size i1 zn zd) = record {
       let k = four-known zn zd 4 (g .2) (omega arith) in
       search (k .0, k .1, k .2, k .3, k .4, k .5);
 }
-fine (Uqrshrnb size shift zn zd) = record {
+fine (Narrow op u r t size shift zn zd) = record {
   refused-small = λ s f. tt;
   writes-some = omega arith;
   contents-only = λ vl cs m. refl;
-  known = λ e. let g = narrow-ranges size shift zn zd e in search (g .2, g .3);
+  known = λ e. let g = narrow-ranges size shift zn zd e in (narrow-known t zn zd (g .2) (g .3), (g .3, tt));
 }

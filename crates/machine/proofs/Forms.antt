@@ -15,12 +15,12 @@ use Rattle.encoding.specs.Rows.{rows}
 use Rattle.encoding.specs.Places.{placeFirst}
 use Rattle.encoding.specs.Decode.{firstOf, readAt}
 use Rattle.encoding.specs.declared.Instruction.{Instruction}
-use Rattle.encoding.specs.declared.Instruction.the-variants.{Pext1, Pext2, Dup, Luti4c, Luti4s, Uqrshrnb}
+use Rattle.encoding.specs.declared.Instruction.the-variants.{Pext1, Pext2, Dup, Luti4c, Luti4s, Narrow}
 use Rattle.encoding.proofs.Choice.{read-past, first-is-read}
 use Rattle.pext.specs.Pext.{pextLeaves}
 use Rattle.dup.specs.Dup.{dupLeaves}
 use Rattle.lookup.specs.Calls.{luti4File}
-use Rattle.narrow.specs.Calls.{narrowFile}
+use Rattle.narrowing.specs.Calls.{narrowFile}
 use Rattle.machine.specs.Machine.{Machine, machine, flagsOf}
 use Rattle.machine.specs.Needs.{need, firstFailed, ifDone}
 use Rattle.machine.specs.Effects.{effectOf}
@@ -28,7 +28,7 @@ use Rattle.machine.specs.Step.{Step, stepOf, stepAs}
 use Rattle.machine.specs.Private.{Ready, Known, PredicateWord, VectorWord, TablelessWord, HasV, HasVS, HasST, HasWV, doneOf, executedOf, movedBy}
 use Rattle.machine.specs.declared.Scalars.{Scalars}
 use Rattle.machine.proofs.Steps.{refused-for, done-for, step-executes, step-ready, step-undefined}
-use Rattle.machine.proofs.Operations.{pext1-done, pext2-done, dup-done, luti4c-done, luti4s-done, uqrshrnb-done}
+use Rattle.machine.proofs.Operations.{pext1-done, pext2-done, dup-done, luti4c-done, luti4s-done, narrow-done}
 
 -- ---- what a known row reads is what the word is read as
 first-at : (s : Setting) (w k : ℕ) (o : Outcome Instruction) → k ≡ placeFirst rows (s .features) w → readAt rows k w ≡ o → firstOf rows (s .features) w ≡ o
@@ -89,11 +89,11 @@ module _ (s : Setting) (w : ℕ) (r : Answer) (z z′ : List ℕ) where
         on-vectors s w 4 _ e z p zt c known z′ _ (numberOf r) (rw (has .0, has .1) answer) q
         (luti4s-done z _ p zt c (s .vl) size i1 zn zd (ready s w 4 _ e z p zt c known) refl)
 
-  pub uqrshrnb-word : (v : Bool) (size shift zn zd : ℕ) → numberOf r ≡ pick v 0 4 → readAt rows 5 w ≡ accept (Uqrshrnb size shift zn zd)
-      → z′ ≡ ifDone (numberOf r) (narrowFile (s .vl) size shift zn zd z) z → TablelessWord 5 s w (HasV v) r z z′
-  uqrshrnb-word v size shift zn zd answer e q zt p c has known =
+  pub narrow-word : (v op u b t : Bool) (size shift zn zd : ℕ) → numberOf r ≡ pick v 0 4 → readAt rows 5 w ≡ accept (Narrow op u b t size shift zn zd)
+      → z′ ≡ ifDone (numberOf r) (narrowFile (s .vl) op u b t size shift zn zd z) z → TablelessWord 5 s w (HasV v) r z z′
+  narrow-word v op u b t size shift zn zd answer e q zt p c has known =
       on-vectors s w 5 _ e z p zt c known z′ _ (numberOf r) (rw has answer) q
-      (uqrshrnb-done z _ p zt c (s .vl) size shift zn zd (ready s w 5 _ e z p zt c known) refl)
+      (narrow-done z _ p zt c (s .vl) op u b t size shift zn zd (ready s w 5 _ e z p zt c known) refl)
 
 -- ---- what is left of a file by an answer that is not 0
 pub kept : (n : ℕ) (done before : List ℕ) → (n ≡ 0 → ⊥) → before ≡ ifDone n done before

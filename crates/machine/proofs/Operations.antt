@@ -1,6 +1,6 @@
 -- What each leaf leaves of its file is the machine with the instruction's new contents put: the tests of the leaf hold of fields in range, and the slots are the table's.
 use mathlib.Core.Path.{_≡_, refl}
-use mathlib.Core.Bool.{true, _&&_, _||_}
+use mathlib.Core.Bool.{Bool, true, false, _&&_, _||_}
 use mathlib.Core.List.{List, [], _∷_}
 use Prim.Native.Nat.{ℕ, zero, suc, _+_, _-_, _*_, _/_, _%_, _<_, _≤_}
 use native.Mathlib.Nat.{add-zero}
@@ -19,13 +19,13 @@ use Rattle.element.proofs.Tests.{both-yes}
 use Rattle.element.proofs.Units.{size-cases}
 use Rattle.encoding.proofs.FieldBits.{strided-zd}
 use Rattle.encoding.proofs.InRange.{pext-ranges, dup-ranges, luti-ranges, narrow-ranges}
-use Rattle.encoding.specs.declared.Instruction.the-variants.{Pext1, Pext2, Dup, Luti4c, Luti4s, Uqrshrnb}
+use Rattle.encoding.specs.declared.Instruction.the-variants.{Pext1, Pext2, Dup, Luti4c, Luti4s, Narrow}
 use Rattle.pext.specs.Pext.{pextReady, pextSlots, pextLeaves}
 use Rattle.dup.specs.Dup.{dupReady, dupLeaves}
 use Rattle.lookup.specs.Lookup.{lutiFile}
-use Rattle.narrow.specs.Narrow.{uqrshrnbFile}
 use Rattle.lookup.specs.Calls.{luti4Ready, luti4File}
-use Rattle.narrow.specs.Calls.{narrowReady, narrowFile}
+use Rattle.narrowing.specs.Registers.{placed, element, narrowOf}
+use Rattle.narrowing.specs.Calls.{narrowReady, narrowFile}
 use Rattle.machine.specs.Machine.{machine, get, put}
 use Rattle.machine.specs.Private.{Ready, doneOf}
 use Rattle.machine.specs.declared.Scalars.{Scalars}
@@ -116,10 +116,12 @@ module _ (z p p′ zt : List ℕ) (s : Scalars) (vl : ℕ) where
       rw (e, r .predicates, dup-ready size offset index pg pn pd vl (r .range) (r .length), q, one-of-four (index - 12) (s .w12) (s .w13) (s .w14) (s .w15) k)
 
 module _ (z z′ p zt : List ℕ) (s : Scalars) (vl : ℕ) where
-  pub uqrshrnb-done : (size shift zn zd : ℕ) → Ready (length z) (length p) (length zt) vl (Uqrshrnb size shift zn zd) → z′ ≡ narrowFile vl size shift zn zd z
-      → machine z′ p zt s ≡ doneOf vl (Uqrshrnb size shift zn zd) (machine z p zt s)
-  unfolding doneOf gets puts get put narrowFile uqrshrnbFile
-  uqrshrnb-done size shift zn zd r e = rw (e, r .vectors, narrow-ready size shift zn zd vl (r .range) (r .length))
+  -- a B word's leaf may see the old Zd, but takes nothing of it
+  pub narrow-done : (op u r t : Bool) (size shift zn zd : ℕ) → Ready (length z) (length p) (length zt) vl (Narrow op u r t size shift zn zd) → z′ ≡ narrowFile vl op u r t size shift zn zd z
+      → machine z′ p zt s ≡ doneOf vl (Narrow op u r t size shift zn zd) (machine z p zt s)
+  unfolding doneOf gets puts get put narrowFile narrowOf element placed
+  narrow-done op u r true size shift zn zd g e = rw (e, g .vectors, narrow-ready size shift zn zd vl (g .range) (g .length))
+  narrow-done op u r false size shift zn zd g e = rw (e, g .vectors, narrow-ready size shift zn zd vl (g .range) (g .length))
 
   pub luti4c-done : (size i1 zn zd : ℕ) → Ready (length z) (length p) (length zt) vl (Luti4c size i1 zn zd) → z′ ≡ luti4File vl size i1 zn zd 1 zt z
       → machine z′ p zt s ≡ doneOf vl (Luti4c size i1 zn zd) (machine z p zt s)

@@ -4,7 +4,7 @@ pub mod Effect
 pub mod Pext
 pub mod Dup
 pub mod Luti4
-pub mod Uqrshrnb
+pub mod Narrow
 pub mod Effects
 pub mod Step
 pub mod Run

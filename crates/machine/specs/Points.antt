@@ -2,12 +2,12 @@
 use mathlib.Core.Path.{_≡_}
 use mathlib.Core.List.{List, [], _∷_, _++_}
 use Rattle.encoding.specs.Points.{board, readingPoints}
-use Rattle.narrow.specs.Points.{narrowPoints}
+use Rattle.narrowing.specs.Points.{narrowPoints}
 use Rattle.counter.specs.Points.{counterPoints}
 use Rattle.pext.specs.Points.{pextPoints}
 use Rattle.dup.specs.Points.{dupPoints}
-use Rattle.machine.specs.Machine.{P, W}
-use Rattle.machine.specs.Step.{reads, gives}
+use Rattle.machine.specs.Machine.{Z, P, W}
+use Rattle.machine.specs.Step.{reads, writes, gives}
 
 abbrev pub elementPoints : List (Type 0)
 elementPoints =
@@ -16,6 +16,14 @@ elementPoints =
     -- with W12 = ffffffff, Pg all true: element 0 of Pn alone true, and it alone false
     ∷ (gives board 0x252c4000 ((0xff ∷ 0xff ∷ []) ∷ (0x01 ∷ 0x00 ∷ []) ∷ (0xffffffff ∷ []) ∷ []) ≡ (0xff ∷ 0xff ∷ []) ∷ [])
     ∷ (gives board 0x252c4000 ((0xff ∷ 0xff ∷ []) ∷ (0xfe ∷ 0xff ∷ []) ∷ (0xffffffff ∷ []) ∷ []) ≡ (0x00 ∷ 0x00 ∷ []) ∷ [])
+    ∷ []
+
+-- document 02, request 1: SQSHRNB reads Z1, and SQSHRNT Z1 and Z2, which it writes
+abbrev pub narrowTouches : List (Type 0)
+narrowTouches =
+    (reads board 0x45282022 ≡ Z 1 ∷ [])
+    ∷ (reads board 0x45282422 ≡ Z 1 ∷ Z 2 ∷ [])
+    ∷ (writes board 0x45282422 ≡ Z 2 ∷ [])
     ∷ []
 
 -- 1 to 3 and the readings of 10; 4 and 5; 7 and 8; 6 and 9; the index of 10; the rest of 10

@@ -9,7 +9,7 @@ use Rattle.element.specs.Files.{vectorFile}
 use Rattle.element.specs.Size.{isResult}
 use Rattle.element.proofs.Tests.{both-yes}
 use Rattle.part.proofs.Lengths.{lengths-of}
-use Rattle.narrow.specs.Calls.{restReady, narrowReady}
+use Rattle.narrowing.specs.Calls.{restReady, narrowReady}
 use Rattle.narrow.specs.Private.{NarrowReady}
 
 module _ (z vl size shift zn zd : ℕ) where

@@ -1,7 +1,7 @@
 -- Chunks of 16 bytes, from Zn's slot to Zd's in one file: those not yet taken are still what they were, also where the two are one slot.
 use mathlib.Core.Path.{_≡_, sym, ap, _∙_}
 use mathlib.Core.List.{List, _++_, append-assoc, append-nil}
-use Prim.Native.Nat.{ℕ, _+_, _-_, _*_, _^_, _≤_, _<_}
+use Prim.Native.Nat.{ℕ, _+_, _-_, _*_, _≤_, _<_}
 use native.Mathlib.Nat.{lt-of-not-le, zero-mul, add-mul, suc-mul, mul-assoc}
 use native.Mathlib.Decide.{decLe}
 use native.Mathlib.Numerals.{add-one}
@@ -11,13 +11,8 @@ use lib.Seq.{take-append-le, drop-append-le, drop-append-add, take-length, take-
 use borrow.Rule.Slice.PartMut.{putMid}
 use Rattle.element.specs.Contents.{num, elem, fill}
 use Rattle.element.specs.Slots.{slot, setSlot}
-use Rattle.element.proofs.Filling.{part-length, fill-length, fill-more, same, turn}
+use Rattle.element.proofs.Filling.{fill-length, fill-more, same, turn}
 use Rattle.element.proofs.Slots.{reach, slot-part, slot-back}
-use Rattle.part.specs.Parts.{Got}
-
--- what is read of an element fits its bits
-pub element-below : (i n w : ℕ) (s : List ℕ) {m x : ℕ} → i < n → length s ≡ n * w → Got (take (i * w + w - i * w) (drop (i * w) s)) m x → x < 2 ^ (8 * w)
-element-below i n w s h l g = rw (part-length i n w s h l) at (g .below)
 
 -- ---- parts of a list
 -- before the end of p, whatever follows it
@@ -138,13 +133,22 @@ element-of w per n i j k z whole h g b =
     ∙ sym (within (n * 16) ((i * per + j) * w) w (drop (256 * k) z) (omega arith) (omega arith))
     ∙ ap (λ (x : List ℕ). take w (drop ((i * per + j) * w) x)) (ap (λ (m : ℕ). take m (drop (256 * k) z)) (sym (reach (256 * k) (n * 16))) ∙ slot-part 256 (n * 16) k z b))
 
--- so what is made of its copy s
-pub chunk-made : (g : ℕ → ℕ) (w per n i k : ℕ) (z s : List ℕ) {ys : List ℕ}
+-- so what is made of its copy s and of the chunk o of the other slot
+pub chunk-made : (g : ℕ → ℕ → ℕ) (w per n i k l : ℕ) (z s o : List ℕ) {ys : List ℕ}
     → per * w ≡ 16
     → i < n
     → 256 * k + n * 16 ≤ length z
+    → 256 * l + n * 16 ≤ length z
     → s ≡ take 16 (drop (256 * k + i * 16) z)
-    → ys ≡ fill (λ e. g (elem w e s)) w per
-    → ys ≡ fill (λ j. g (elem w (i * per + j) (slot 256 (n * 16) k z))) w per
-chunk-made g w per n i k z s whole h b es ey =
-    ey ∙ ap (λ (x : List ℕ). fill (λ e. g (elem w e x)) w per) es ∙ same _ _ w per (λ j l. ap g (element-of w per n i j k z whole h l b))
+    → o ≡ take 16 (drop (256 * l + i * 16) z)
+    → ys ≡ fill (λ e. g (elem w e s) (elem w e o)) w per
+    → ys ≡ fill (λ j. g (elem w (i * per + j) (slot 256 (n * 16) k z)) (elem w (i * per + j) (slot 256 (n * 16) l z))) w per
+chunk-made g w per n i k l z s o whole h b c es eo ey =
+    ey
+    ∙ ap (λ (x : List ℕ). fill (λ e. g (elem w e x) (elem w e o)) w per) es
+    ∙ ap (λ (x : List ℕ). fill (λ e. g (elem w e (take 16 (drop (256 * k + i * 16) z))) (elem w e x)) w per) eo
+    ∙ same _ _ w per (λ j v. ap (λ (x : ℕ). g x (elem w j (take 16 (drop (256 * l + i * 16) z)))) (element-of w per n i j k z whole h v b) ∙ ap (λ (x : ℕ). g (elem w (i * per + j) (slot 256 (n * 16) k z)) x) (element-of w per n i j l z whole h v c))
+
+-- the chunk that is lent is still the old one
+pub lent : (f : ℕ → ℕ) (w per : ℕ) (whole : per * w ≡ 16) (z : List ℕ) (k i : ℕ) (o : List ℕ) → i < 16 → 256 * k + 256 ≤ length z → o ≡ upTo f w per (256 * k) i z → take (256 * k + i * 16 + 16 - (256 * k + i * 16)) (drop (256 * k + i * 16) o) ≡ take 16 (drop (256 * k + i * 16) z)
+lent f w per whole z k i o h b e = rw (reach (256 * k + i * 16) 16, e) (kept-by f w per whole z k k i (decLe k k) h b)

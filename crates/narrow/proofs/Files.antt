@@ -1,48 +1,48 @@
 -- The chunks of a register are its bytes, and their elements its elements: once over the width.
 use mathlib.Core.Path.{_≡_, refl, sym, ap, _∙_}
-use mathlib.Core.Bool.{true}
+use mathlib.Core.Bool.{Bool, true}
 use mathlib.Core.List.{List}
 use Prim.Native.Nat.{ℕ, _*_, _/_, _%_, _≤_}
 use native.Mathlib.Nat.{mul-assoc, div-eq-of-eq-mul-left}
 use native.Mathlib.Omega.{arith}
-use Rattle.element.specs.Contents.{elem, fill}
 use Rattle.logic.specs.Pick.{pick}
 use Rattle.element.specs.Size.{isResult}
 use Rattle.element.specs.Slots.{slot, setSlot}
 use Rattle.part.specs.Private.{Width}
-use Rattle.narrow.specs.Narrow.{narrowed, uqrshrnbOf, uqrshrnbFile}
-use Rattle.narrow.specs.Private.{ChunksReady, NarrowReady}
+use Rattle.narrowing.specs.Narrowing.{form}
+use Rattle.narrowing.specs.Registers.{narrowOf}
+use Rattle.narrow.specs.Private.{ChunksReady, chunksOf, NarrowReady}
 
-module _ {file vl s shift zn zd : ℕ} (op : NarrowReady file vl s shift zn zd) (n per w : ℕ) (count : n ≡ vl / 128 % 32) (whole : per * w ≡ 16) (some : 1 ≤ w) (width : Width w) (size : s ≡ 4 * w) where
-  bytes-are : n * 16 ≡ vl / 8
-  bytes-are = let l = op .lengths in omega arith
+module _ {file vl s shift zn zd : ℕ} (ready : NarrowReady file vl s shift zn zd) (per w : ℕ) (whole : per * w ≡ 16) (some : 1 ≤ w) (width : Width w) (size : s ≡ 4 * w) where
+  bytes-are : vl / 128 % 32 * 16 ≡ vl / 8
+  bytes-are = let l = ready .lengths in omega arith
 
-  elements-are : n * per ≡ vl / (2 * (4 * w))
+  elements-are : vl / 128 % 32 * per ≡ vl / (2 * (4 * w))
   elements-are =
-      let l = op .lengths in
+      let l = ready .lengths in
       let e : 2 * (4 * w) ≡ w * 8 = omega arith in
-      let p : n * per * w ≡ n * 16 = mul-assoc n per w ∙ ap (λ (m : ℕ). n * m) whole in
-      let q : n * per * (w * 8) ≡ n * 16 * 8 = sym (mul-assoc (n * per) w 8) ∙ ap (λ (m : ℕ). m * 8) p in
-      let v : vl ≡ n * per * (w * 8) = omega arith in
+      let p : vl / 128 % 32 * per * w ≡ vl / 128 % 32 * 16 = mul-assoc (vl / 128 % 32) per w ∙ ap (λ (m : ℕ). vl / 128 % 32 * m) whole in
+      let q : vl / 128 % 32 * per * (w * 8) ≡ vl / 128 % 32 * 16 * 8 = sym (mul-assoc (vl / 128 % 32 * per) w 8) ∙ ap (λ (m : ℕ). m * 8) p in
+      let v : vl ≡ vl / 128 % 32 * per * (w * 8) = omega arith in
       sym (ap (λ (m : ℕ). vl / m) e ∙ div-eq-of-eq-mul-left (omega arith) v)
 
-  pub chunks-ready : ChunksReady file n per w shift zn zd
+  pub chunks-ready : ChunksReady file (vl / 128 % 32) per w shift zn zd
   chunks-ready =
-      let m = op .lengths .most in
+      let m = ready .lengths .most in
       record {
-        slots = op .slots;
+        slots = ready .slots;
         room = omega arith;
         whole = whole;
         bytes = width;
-        low = op .low;
-        high = omega arith;
-        from = op .from;
-        to = op .to;
+        low = ready .low;
+        high = rw size at (ready .high);
+        from = ready .from;
+        to = ready .to;
       }
 
   pub chunks-are : isResult (4 * w) ≡ true
-      → (z o : List ℕ)
-      → o ≡ setSlot 256 (n * 16) zd (fill (λ e. narrowed (4 * w) shift (elem w e (slot 256 (n * 16) zn z))) w (n * per)) z
-      → (true ≡ isResult s) × (o ≡ pick (isResult s) (uqrshrnbFile s shift vl zn zd z) z)
-  unfolding uqrshrnbFile uqrshrnbOf
-  chunks-are t z o h = let q : 4 * w / 4 ≡ w = omega arith in rw (size, t) (refl, rw (q, ← bytes-are, ← elements-are) h)
+      → (op u r t : Bool) (z o : List ℕ)
+      → o ≡ chunksOf (vl / 128 % 32) per w op u r t shift zn zd z
+      → (true ≡ isResult s) × (o ≡ pick (isResult s) (setSlot 256 (vl / 8) zd (narrowOf (form op u) r t s shift vl (slot 256 (vl / 8) zn z) (slot 256 (vl / 8) zd z)) z) z)
+  unfolding narrowOf
+  chunks-are y op u r t z o h = let q : 4 * w / 4 ≡ w = omega arith in rw (size, y) (refl, rw (q, ← bytes-are, ← elements-are) h)

@@ -1,4 +1,1 @@
-pub mod Narrow
-pub mod Calls
 pub mod Private
-pub mod Points

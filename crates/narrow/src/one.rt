@@ -1,54 +1,54 @@
-// UQRSHRNB's element at each width, in the narrowest arithmetic: the more of them fit a register of the processor.
-// `top` is the greatest element that rounds to no more than the greatest result. What lies above it is cut before the sum, which then cannot wrap.
+// One element of a word: its class and its width, and where T puts the result.
+use crate::bounds::Bounds;
+use crate::signed;
+use crate::unsigned;
 ghost use mathlib.Core.Path.{_≡_};
-ghost use Prim.Native.Nat.{_*_, _≤_};
-ghost use Rattle.narrow.specs.Narrow.{narrowed};
-ghost use Rattle.narrow.specs.Private.{OneReady};
+ghost use Prim.Native.Nat.{_*_};
+ghost use Rattle.narrowing.specs.Narrowing.{form};
+ghost use Rattle.narrowing.specs.Points.{narrowed};
+ghost use Rattle.narrowing.specs.Registers.{placed};
+ghost use Rattle.narrow.specs.Private.{OneReady, PlaceReady};
 
-// To 8 bits. Raised so that the cut is the sum that saturates, and lowered again: the processor has it for 16 bits.
-fn narrow_one16(x: u16, shift: u16) -> u16
-    requires { ⌜ (1 ≤ shift) × (shift ≤ 8) ⌝ }
-    ensures { λ r. ⌜ r ≡ narrowed 8 shift x ⌝ }
+// An element of w bytes; op of the unsigned classes, u and w are literals where the loop is called, so that the compiler makes a loop for each.
+pub(crate) fn narrow_one(x: u64, w: usize, op: bool, u: bool, r: bool, shift: u32, a: Bounds) -> u64
+    requires { ⌜ OneReady x w op u r shift (a .lo) (a .hi) (a .top) (a .h) ⌝ }
+    ensures { λ b. ⌜ b ≡ narrowed (form op u) r (4 * w) shift x ⌝ }
 {
-    let half = 1u16 << (shift - 1);
-    let top = (255u16 << shift) + (half - 1);
-    let up = 65535 - top;
-    let y = if x <= top { x + up } else { 65535 };
-    (y - (up - half)) >> shift
-}
-
-// To 16 bits. All ones are cut by the remainder.
-fn narrow_one32(x: u32, shift: u32) -> u32
-    requires { ⌜ (1 ≤ shift) × (shift ≤ 16) ⌝ }
-    ensures { λ r. ⌜ r ≡ narrowed 16 shift x ⌝ }
-{
-    let half = 1u32 << (shift - 1);
-    let top = (65535u32 << shift) + (half - 1);
-    let y = if x <= top { x + half } else { 4294967295 };
-    (y >> shift) % 65536
-}
-
-// To 32 bits.
-fn narrow_one64(x: u64, shift: u64) -> u64
-    requires { ⌜ (1 ≤ shift) × (shift ≤ 32) ⌝ }
-    ensures { λ r. ⌜ r ≡ narrowed 32 shift x ⌝ }
-{
-    let half = 1u64 << (shift - 1);
-    let top = (4294967295u64 << shift) + (half - 1);
-    let y = if x <= top { x } else { top };
-    (y + half) >> shift
-}
-
-// An element of w bytes.
-pub(crate) fn narrow_one(x: u64, w: usize, shift: u32) -> u64
-    requires { ⌜ OneReady x w shift ⌝ }
-    ensures { λ r. ⌜ r ≡ narrowed (4 * w) shift x ⌝ }
-{
+    if u {
+        if op {
+            if w == 2 {
+                return unsigned::saturated16(x, r, shift, a);
+            }
+            if w == 4 {
+                return unsigned::saturated32(x, r, shift, a);
+            }
+            return unsigned::saturated64(x, r, shift, a);
+        }
+        if w == 2 {
+            return unsigned::low16(x, r, shift);
+        }
+        if w == 4 {
+            return unsigned::low32(x, r, shift);
+        }
+        return unsigned::low64(x, r, shift);
+    }
     if w == 2 {
-        return narrow_one16(x as u16, shift as u16) as u64;
+        return signed::signed16(x, op, r, shift, a);
     }
     if w == 4 {
-        return narrow_one32(x as u32, shift) as u64;
+        return signed::signed32(x, op, r, shift, a);
     }
-    narrow_one64(x, shift as u64)
+    signed::signed64(x, op, r, shift, a)
+}
+
+// The result v over the old element y of Zd.
+pub(crate) fn place(y: u64, v: u64, w: usize, t: bool) -> u64
+    requires { ⌜ PlaceReady v w ⌝ }
+    ensures { λ b. ⌜ b ≡ placed t (4 * w) v y ⌝ }
+{
+    if t {
+        let m = 1u64 << (4 * w);
+        return y % m + m * v;
+    }
+    v
 }

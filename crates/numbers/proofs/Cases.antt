@@ -1,15 +1,17 @@
 -- Seven numbers: each form's are seven and read back, what the definitions are in each case of a list's length, and that seven stores fill a list of seven.
 use mathlib.Core.Path.{_≡_, refl, sym, ap, _∙_}
+use mathlib.Core.Bool.{Bool, true, false}
 use mathlib.Core.List.{List}
 use Prim.Native.Nat.{ℕ}
 use lib.ListN.{length, getD, set}
 use borrow.Author.Tests.{eq-eqb, ne-eqb}
-use Rattle.setting.specs.Numbers.{Outcome, refuse}
+use Rattle.setting.specs.Numbers.{Outcome, accept, refuse}
+use Rattle.encoding.specs.Instructions.{narrowNumber}
 use Rattle.encoding.specs.declared.Instruction.{Instruction}
-use Rattle.encoding.specs.declared.Instruction.the-variants.{Pext1, Pext2, Dup, Luti4c, Luti4s, Uqrshrnb}
+use Rattle.encoding.specs.declared.Instruction.the-variants.{Pext1, Pext2, Dup, Luti4c, Luti4s, Narrow}
 use Rattle.element.proofs.Spelled.{spelled}
-use Rattle.numbers.specs.Fields.{numbersOf, numbersInto, instructionAt, instructionOf}
-use Rattle.numbers.specs.Claims.{NumbersRead}
+use Rattle.numbers.specs.Fields.{numbersOf, numbersInto, narrowAt, instructionAt, instructionOf}
+use Rattle.numbers.specs.Claims.{NumbersRead, FiveUnused}
 
 -- ---- reading
 seven : (i : Instruction) → length (numbersOf i) ≡ 7
@@ -18,7 +20,29 @@ seven (Pext2 size i1 counter pd) = refl
 seven (Dup size offset index pg pn pd) = refl
 seven (Luti4c size i1 zn zd) = refl
 seven (Luti4s size i1 zn zd) = refl
-seven (Uqrshrnb size shift zn zd) = refl
+seven (Narrow op u r t size shift zn zd) = refl
+
+-- four flags from their number, by computing
+flags-read : (op u r t : Bool) (size shift zn zd : ℕ) → narrowAt (narrowNumber op u r t) size shift zn zd ≡ accept (Narrow op u r t size shift zn zd)
+flags-read true true true true size shift zn zd = refl
+flags-read true true true false size shift zn zd = refl
+flags-read true true false true size shift zn zd = refl
+flags-read true true false false size shift zn zd = refl
+flags-read true false true true size shift zn zd = refl
+flags-read true false true false size shift zn zd = refl
+flags-read true false false true size shift zn zd = refl
+flags-read true false false false size shift zn zd = refl
+flags-read false true true true size shift zn zd = refl
+flags-read false true true false size shift zn zd = refl
+flags-read false true false true size shift zn zd = refl
+flags-read false true false false size shift zn zd = refl
+flags-read false false true true size shift zn zd = refl
+flags-read false false true false size shift zn zd = refl
+flags-read false false false true size shift zn zd = refl
+flags-read false false false false size shift zn zd = refl
+
+pub five-unused : FiveUnused
+five-unused a b c d e f = refl
 
 -- read back: of each form by computing
 pub numbers-read : NumbersRead
@@ -28,7 +52,7 @@ numbers-read (Pext2 size i1 counter pd) = refl
 numbers-read (Dup size offset index pg pn pd) = refl
 numbers-read (Luti4c size i1 zn zd) = refl
 numbers-read (Luti4s size i1 zn zd) = refl
-numbers-read (Uqrshrnb size shift zn zd) = refl
+numbers-read (Narrow op u r t size shift zn zd) = flags-read op u r t size shift zn zd
 
 -- seven stores fill a list of seven
 stored : (out n : List ℕ) → length out ≡ 7 → length n ≡ 7

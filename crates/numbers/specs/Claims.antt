@@ -1,8 +1,18 @@
--- Decoding and encoding undo each other over the C interface too: the seven numbers of an instruction are read back as that instruction, so what `gighull_decode` leaves can be lent to `gighull_encode`.
+-- Decoding and encoding undo each other over the C interface too, and no list of an older interface is read as another word.
 use mathlib.Core.Path.{_≡_}
-use Rattle.setting.specs.Numbers.{accept}
+use Prim.Native.Nat.{ℕ}
+use Rattle.setting.specs.Numbers.{accept, refuse}
 use Rattle.encoding.specs.declared.Instruction.{Instruction}
-use Rattle.numbers.specs.Fields.{numbersOf, instructionOf}
+use Rattle.numbers.specs.Fields.{numbersOf, instructionAt, instructionOf}
 
+-- the seven numbers of an instruction are read back as that instruction, so what `gighull_decode` leaves can be lent to `gighull_encode`
 abbrev pub NumbersRead : Type 0
 NumbersRead = (i : Instruction) → instructionOf (numbersOf i) ≡ accept i
+
+-- a list of form 5 is no instruction's
+abbrev pub FiveUnused : Type 0
+FiveUnused = (a b c d e f : ℕ) → instructionAt 5 a b c d e f ≡ refuse 9
+
+pub record Claims : Type 0 where
+  pub numbers-read : NumbersRead
+  pub five-unused : FiveUnused

@@ -4,10 +4,11 @@ ghost use Rattle.setting.specs.Numbers.{accept};
 ghost use Rattle.logic.specs.Pick.{pick};
 ghost use Rattle.encoding.specs.declared.Instruction.the-variants.{Luti4c, Luti4s};
 ghost use Rattle.encoding.specs.Decode.{decodedAs};
-ghost use Rattle.numbers.specs.Fields.{numbersOf, numbersInto, instructionAt, instructionOf};
-ghost use Rattle.numbers.specs.Claims.{NumbersRead};
+ghost use Rattle.numbers.specs.Fields.{numbersOf, numbersInto, narrowAt, instructionAt, instructionOf};
+ghost use Rattle.numbers.specs.Claims.{Claims};
 use encoding::Decoded;
 use encoding::Instruction;
+use encoding::narrow_number;
 use setting::Answer;
 
 fn numbers(instruction: Instruction) -> [u32; 7]
@@ -36,12 +37,16 @@ fn numbers(instruction: Instruction) -> [u32; 7]
         } => [2, size, offset, index, pg, pn, pd],
         Instruction::Luti4c { size, i1, zn, zd } => [3, size, i1, zn, zd, 0, 0],
         Instruction::Luti4s { size, i1, zn, zd } => [4, size, i1, zn, zd, 0, 0],
-        Instruction::Uqrshrnb {
+        Instruction::Narrow {
+            op,
+            u,
+            r,
+            t,
             size,
             shift,
             zn,
             zd,
-        } => [5, size, shift, zn, zd, 0, 0],
+        } => [6, narrow_number(op, u, r, t), size, shift, zn, zd, 0],
     }
 }
 
@@ -71,6 +76,25 @@ fn luti4(strided: bool, size: u32, i1: u32, zn: u32, zd: u32) -> Decoded
     Decoded::Fields(Instruction::Luti4c { size, i1, zn, zd })
 }
 
+// The bits are op:U:R:T.
+fn narrow(bits: u32, size: u32, shift: u32, zn: u32, zd: u32) -> Decoded
+    ensures { λ r. ⌜ decodedAs r ≡ narrowAt bits size shift zn zd ⌝ }
+{
+    if bits < 16 {
+        return Decoded::Fields(Instruction::Narrow {
+            op: bits / 8 % 2 == 1,
+            u: bits / 4 % 2 == 1,
+            r: bits / 2 % 2 == 1,
+            t: bits % 2 == 1,
+            size,
+            shift,
+            zn,
+            zd,
+        });
+    }
+    Decoded::Refused(Answer::OutOfRange)
+}
+
 // The instruction of a form with these fields; a form has at most six.
 fn named(form: u32, a: u32, b: u32, c: u32, d: u32, e: u32, f: u32) -> Decoded
     ensures { λ r. ⌜ decodedAs r ≡ instructionAt form a b c d e f ⌝ }
@@ -98,12 +122,7 @@ fn named(form: u32, a: u32, b: u32, c: u32, d: u32, e: u32, f: u32) -> Decoded
         }),
         3 => luti4(false, a, b, c, d),
         4 => luti4(true, a, b, c, d),
-        5 => Decoded::Fields(Instruction::Uqrshrnb {
-            size: a,
-            shift: b,
-            zn: c,
-            zd: d,
-        }),
+        6 => narrow(a, b, c, d, e),
         _ => Decoded::Refused(Answer::OutOfRange),
     }
 }
@@ -125,7 +144,7 @@ pub fn instruction(fields: &[u32]) -> Decoded
     )
 }
 
-// An instruction's seven numbers are read back as that instruction.
+// The theorems about these definitions. It does nothing: its promise has the check demand their proofs.
 pub fn claims()
-    ensures { λ _. ⌜ NumbersRead ⌝ }
+    ensures { λ _. ⌜ Claims ⌝ }
 {}

@@ -5,6 +5,7 @@ ghost use mathlib.Core.List.{[], _∷_};
 ghost use Prim.Native.Nat.{_+_, _*_, _^_, _≤_, _<_};
 ghost use Rattle.encoding.specs.Instructions.{inRange};
 ghost use Rattle.machine.specs.Machine.{Z, P, W};
+ghost use Rattle.machine.specs.Narrow.{narrowReads};
 ghost use Rattle.machine.specs.Effects.{effectOf};
 ghost use Rattle.stretch.specs.Private.{registerBit, bitsOf, joined, touchBy, readingAs, readingOf, clashes};
 use encoding::Decoded;
@@ -62,6 +63,17 @@ fn four_vectors(k: u32, gap: u32) -> u64
     vector(k) | (vector(k + gap) | (vector(k + 2 * gap) | vector(k + 3 * gap)))
 }
 
+// A narrowing word's: Zn, and of a T word Zd too.
+fn narrow_sources(t: bool, zn: u32, zd: u32) -> u64
+    requires { ⌜ (zn < 32) × (zd < 32) ⌝ }
+    ensures { λ r. ⌜ r ≡ bitsOf (narrowReads t zn zd) ⌝ }
+{
+    if t {
+        return vector(zn) | vector(zd);
+    }
+    vector(zn)
+}
+
 fn join(reads: u64, writes: u64) -> Touch
     ensures { λ r. ⌜ r ≡ joined reads writes ⌝ }
 {
@@ -94,7 +106,7 @@ fn touch_of(instruction: Instruction) -> Touch
         ),
         Instruction::Luti4c { zn, zd, .. } => join(vector(zn) | ZT0, four_vectors(zd, 1)),
         Instruction::Luti4s { zn, zd, .. } => join(vector(zn) | ZT0, four_vectors(zd, 4)),
-        Instruction::Uqrshrnb { zn, zd, .. } => join(vector(zn), vector(zd)),
+        Instruction::Narrow { t, zn, zd, .. } => { join(narrow_sources(t, zn, zd), vector(zd)) }
     }
 }
 

@@ -1,20 +1,27 @@
-// Words read and forms written: kinds 0 to 6.
+// Words read and forms written: kinds 0 to 6 and 11.
 //
-// Six values follow kind, VL and features. Kind 0 reads the word that is the first value; kinds 1 to 6 write the form at
-// that place of the table, its fields in the order of `Instruction`. An answer is eight numbers: document 01's number,
-// then the form's place (from 1) and its fields, or the word and zeros.
+// Six values follow kind, VL and features. Kind 0 reads the word that is the first value; the others write a word of the
+// form with these fields, kinds 1 to 6 of the forms 0 to 5 (5 is not used any more) and kind 11 of form 6. An answer is
+// eight numbers: document 01's number, then the form's number, counted from 1, and its fields, or the word and zeros.
 use crate::lines;
 use encoding::Decoded;
 use encoding::Instruction;
 use setting::Answer;
 use setting::Setting;
 
-// The crate `numbers` counts the forms from 0.
+// The crate `numbers` counts the forms from 0; the kinds 7 to 10 are other questions.
+fn form_of(kind: u32) -> u32 {
+    if kind == 11 {
+        return 6;
+    }
+    std::num::wrapping_sub_u32(kind, 1)
+}
+
 fn fields(instruction: Instruction) -> [u32; 8] {
     let mut n = [0u32; 7];
     numbers::put(instruction, &mut n);
-    let place = std::num::wrapping_add_u32(n[0], 1);
-    [0, place, n[1], n[2], n[3], n[4], n[5], n[6]]
+    let form = std::num::wrapping_add_u32(n[0], 1);
+    [0, form, n[1], n[2], n[3], n[4], n[5], n[6]]
 }
 
 fn refused(answer: Answer) -> [u32; 8] {
@@ -29,14 +36,9 @@ fn read(setting: Setting, word: u32) -> [u32; 8] {
 }
 
 fn write(setting: Setting, seven: &[u32; 7]) -> [u32; 8] {
-    match numbers::instruction(seven) {
-        Decoded::Fields(instruction) => {
-            let e = encoder::encode(setting, instruction);
-            let answer = e.answer;
-            [setting::number(answer), e.word, 0, 0, 0, 0, 0, 0]
-        }
-        Decoded::Refused(answer) => refused(answer),
-    }
+    let e = exported::written(setting, seven);
+    let answer = e.answer;
+    [setting::number(answer), e.word, 0, 0, 0, 0, 0, 0]
 }
 
 fn values(setting: Setting, question: &[u32; 9]) -> [u32; 8] {
@@ -47,7 +49,7 @@ fn values(setting: Setting, question: &[u32; 9]) -> [u32; 8] {
     write(
         setting,
         &[
-            kind - 1,
+            form_of(kind),
             question[3],
             question[4],
             question[5],

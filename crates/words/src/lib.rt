@@ -12,7 +12,7 @@ ghost use Rattle.element.specs.Units.{sizeAt};
 ghost use Rattle.pext.specs.Pext.{pextLeaves};
 ghost use Rattle.dup.specs.Dup.{dupLeaves};
 ghost use Rattle.lookup.specs.Calls.{luti4File};
-ghost use Rattle.narrow.specs.Calls.{narrowFile};
+ghost use Rattle.narrowing.specs.Calls.{narrowFile};
 ghost use Rattle.machine.specs.Needs.{need, firstFailed, ifDone};
 use setting::Answer;
 use setting::Setting;
@@ -82,14 +82,26 @@ pub fn luti4(
     Answer::Done
 }
 
-pub fn uqrshrnb(z: &mut [u8], vl: u32, v: bool, size: u32, shift: u32, zn: u32, zd: u32) -> Answer
-    ensures answer { λ r. ⌜ numberOf r ≡ pick v 0 4 ⌝ }
-    ensures file { λ r. ⌜ now (z .exit) ≡ ifDone (numberOf r) (narrowFile vl size shift zn zd (now (z .entry))) (now (z .entry)) ⌝ }
+pub fn narrow(
+    z: &mut [u8],
+    vl: u32,
+    v: bool,
+    op: bool,
+    u: bool,
+    r: bool,
+    t: bool,
+    size: u32,
+    shift: u32,
+    zn: u32,
+    zd: u32,
+) -> Answer
+    ensures answer { λ a. ⌜ numberOf a ≡ pick v 0 4 ⌝ }
+    ensures file { λ a. ⌜ now (z .exit) ≡ ifDone (numberOf a) (narrowFile vl op u r t size shift zn zd (now (z .entry))) (now (z .entry)) ⌝ }
 {
     let answer = access::vectors(v);
     if setting::number(answer) != 0 {
         return answer;
     }
-    narrow::uqrshrnb(z, vl, size, shift, zn, zd);
+    narrow::narrow(z, vl, op, u, r, t, size, shift, zn, zd);
     Answer::Done
 }

@@ -15,6 +15,7 @@ use crate::register::Elements;
 use crate::report::Report;
 use crate::run::Session;
 use crate::save;
+use crate::view::Views;
 use crate::words::{self, ListError};
 
 const HELP: &str = include_str!("help/gighull.txt");
@@ -256,7 +257,8 @@ fn run(arguments: &[OsString]) -> Answered {
 fn curve(plot: &Plot, session: &Session) -> Result<Curve, Failure> {
     let Plot { elements, part, .. } = plot;
     let vl = session.setting.vl;
-    let mut values = elements.all(&session.ran.end, vl);
+    let views = Views::of(session.lesson, session.setting, session.ran.done);
+    let mut values = views.values(*elements, &session.ran.end, vl);
     let count = values.len();
     let (first, last) = part.unwrap_or((0, count as u32 - 1));
     if last as usize >= count {

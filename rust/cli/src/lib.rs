@@ -6,7 +6,8 @@
 //! which [`files`] puts down whole or not at all. The other commands are in [`words`](mod@words).
 //!
 //! Nothing here decides what a word does: every answer is the library's. What
-//! is told beside it ([`touch`], [`counter`]) is tested against the reference.
+//! is told beside it ([`touch`], [`view`], [`counter`]) is tested against the
+//! reference.
 
 pub mod command;
 pub mod counter;
@@ -22,4 +23,5 @@ pub mod save;
 pub mod svg;
 pub mod table;
 pub mod touch;
+pub mod view;
 pub mod words;

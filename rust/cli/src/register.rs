@@ -126,6 +126,20 @@ impl Elements {
         }
     }
 
+    /// The least one, where they have a sign.
+    pub fn least(self) -> i64 {
+        match self.register {
+            Register::P(_) => 0,
+            _ => i64::MIN >> (64 - self.width),
+        }
+    }
+
+    /// A value's bits as a number with a sign: two's complement of the width.
+    pub fn with_sign(self, value: u64) -> i64 {
+        let above = 64 - self.width;
+        (value << above) as i64 >> above
+    }
+
     /// Element `index`, which must be one of them.
     pub fn get(self, machine: &Machine, index: u32) -> u64 {
         let value = match self.register {
@@ -203,6 +217,22 @@ mod tests {
         }
         for name in ["z0", "z0.", "z0.q", "z32.b", "p0.n", "zt0.h", "w12.s", ".h"] {
             assert_eq!(Elements::from_name(name), None, "{name}");
+        }
+    }
+
+    #[test]
+    fn signs() {
+        let signed = |name: &str, value| Elements::from_name(name).unwrap().with_sign(value);
+        assert_eq!([0, 7, 8, 15].map(|n| signed("z0.n", n)), [0, 7, -8, -1]);
+        assert_eq!([0x7f, 0x80].map(|b| signed("z0.b", b)), [127, -128]);
+        assert_eq!(signed("zt0.s", 0xffff_fffe), -2);
+        assert_eq!(signed("z0.d", u64::MAX), -1);
+        assert_eq!(signed("z0.d", 1 << 63), i64::MIN);
+        for name in ["z0.n", "z0.b", "z0.h", "z0.s", "z0.d", "zt0.s"] {
+            let elements = Elements::from_name(name).unwrap();
+            let bits = elements.least() as u64 & elements.greatest();
+            assert_eq!(elements.with_sign(bits), elements.least());
+            assert_eq!(elements.with_sign(bits - 1), -(elements.least() + 1));
         }
     }
 

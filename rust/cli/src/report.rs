@@ -1,6 +1,5 @@
 //! What `run` says of a lesson.
 
-use std::collections::BTreeMap;
 use std::fmt::Write;
 
 use gighull::{Machine, Refusal, decode};
@@ -8,10 +7,11 @@ use gighull::{Machine, Refusal, decode};
 use crate::counter;
 use crate::lesson::{Show, Word, feature_names};
 use crate::paint::Paint;
-use crate::register::{Elements, Register};
+use crate::register::Register;
 use crate::run::{Ordered, Ran, Session};
 use crate::table::{Kind, Side, block};
 use crate::touch::{reason, touch};
+use crate::view::{Views, view};
 
 pub struct Report<'a> {
     pub session: &'a Session<'a>,
@@ -29,7 +29,7 @@ impl Report<'_> {
             lesson, start, ran, ..
         } = self.session;
         let sides = [("before", start), ("after", &ran.end)];
-        text.push_str(&self.changes(sides, &lesson.shows, &self.widths(ran.done)));
+        text.push_str(&self.changes(sides, &lesson.shows, &self.views(ran.done)));
         for ordered in &self.session.orders {
             text.push_str(&self.ordered(ordered));
         }
@@ -116,30 +116,17 @@ impl Report<'_> {
             let (from, to) = (before.scalars.pc, machine.scalars.pc);
             let _ = writeln!(text, "; pc {from:#x} -> {to:#x}");
             let shows = self.shows_of_changed(&before, &machine);
-            let widths = self.widths(place + 1);
+            let views = self.views(place + 1);
             let sides = [("before", &before), ("after", &machine)];
-            text.push_str(&self.changes(sides, &shows, &widths));
+            text.push_str(&self.changes(sides, &shows, &views));
             text.push('\n');
         }
         text
     }
 
-    /// The element width at which each register was last written, by the
-    /// first words of the stretch.
-    fn widths(&self, words: usize) -> BTreeMap<Register, u32> {
-        let mut widths = BTreeMap::new();
-        for word in self.session.lesson.words.iter().take(words) {
-            if let Ok(instruction) = decode(self.session.setting, word.word) {
-                let touched = touch(instruction);
-                widths.extend(
-                    touched
-                        .writes
-                        .iter()
-                        .map(|&register| (register, touched.width)),
-                );
-            }
-        }
-        widths
+    /// What registers hold after the first words of the stretch.
+    fn views(&self, words: usize) -> Views {
+        Views::of(self.session.lesson, self.session.setting, words)
     }
 
     /// What is to be shown of two machines in the middle of a lesson.
@@ -152,18 +139,13 @@ impl Report<'_> {
     }
 
     /// Each register that differs, and those that are to be shown.
-    fn changes(
-        &self,
-        sides: [(&str, &Machine); 2],
-        shows: &[Show],
-        widths: &BTreeMap<Register, u32>,
-    ) -> String {
+    fn changes(&self, sides: [(&str, &Machine); 2], shows: &[Show], views: &Views) -> String {
         let vl = self.session.setting.vl;
         let [(_, before), (_, after)] = sides;
         let mut text = String::new();
         for register in Register::of_files() {
             let changed = changed(register, before, after, vl);
-            let mut views: Vec<Show> = (shows.iter().copied())
+            let mut told: Vec<Show> = (shows.iter().copied())
                 .filter(|show| show_register(show) == register)
                 .collect();
             // A counter, or elements that are too wide, may hide what changed.
@@ -173,17 +155,17 @@ impl Report<'_> {
                 }
                 Show::Counter(_) => false,
             };
-            if changed && !views.iter().any(tells_all) {
-                let width = widths.get(&register).copied();
-                views.push(Show::Elements(view(register, width, &[before, after], vl)));
+            if changed && !told.iter().any(tells_all) {
+                let elements = views.elements(register, &[before, after], vl);
+                told.push(Show::Elements(elements));
             }
             let sides = if changed {
                 &sides[..]
             } else {
                 &[("unchanged", after)]
             };
-            for show in views {
-                text.push_str(&self.view(show, sides));
+            for show in told {
+                text.push_str(&self.told(show, sides, views));
             }
         }
         if text.is_empty() {
@@ -192,12 +174,12 @@ impl Report<'_> {
         text
     }
 
-    fn view(&self, show: Show, sides: &[(&str, &Machine)]) -> String {
+    fn told(&self, show: Show, sides: &[(&str, &Machine)], views: &Views) -> String {
         let vl = self.session.setting.vl;
         match show {
             Show::Elements(elements) => {
-                let values: Vec<Vec<u64>> = (sides.iter())
-                    .map(|(_, machine)| elements.all(machine, vl))
+                let values: Vec<Vec<i128>> = (sides.iter())
+                    .map(|(_, machine)| views.values(elements, machine, vl))
                     .collect();
                 let sides: Vec<Side> = (sides.iter().zip(&values))
                     .map(|(&(name, _), values)| Side { name, values })
@@ -287,7 +269,7 @@ impl Report<'_> {
             text.push_str("it ended differently:\n");
             let shows = self.shows_of_changed(&first.end, &ran.end);
             let sides = [("lesson", &first.end), ("this order", &ran.end)];
-            text.push_str(&self.changes(sides, &shows, &self.widths(count)));
+            text.push_str(&self.changes(sides, &shows, &self.views(count)));
         }
         text
     }
@@ -302,30 +284,4 @@ fn show_register(show: &Show) -> Register {
 
 fn changed(register: Register, before: &Machine, after: &Machine, vl: u32) -> bool {
     register.bytes(before, vl) != register.bytes(after, vl)
-}
-
-/// The elements as which a register is told: of the width that it was written
-/// with, but where a predicate has bits between those, of 8 bits, which shows
-/// every bit.
-pub fn view(register: Register, width: Option<u32>, machines: &[&Machine], vl: u32) -> Elements {
-    let narrowest = match register {
-        Register::Zt0 => 32,
-        _ => 8,
-    };
-    let all = Elements {
-        register,
-        width: narrowest,
-    };
-    let Some(elements) = width.and_then(|width| Elements::new(register, width)) else {
-        return all;
-    };
-    let step = (elements.width / narrowest) as usize;
-    let between = |machine: &&Machine| {
-        let bits = all.all(machine, vl);
-        bits.iter()
-            .enumerate()
-            .any(|(b, &bit)| bit != 0 && b % step != 0)
-    };
-    let hides = matches!(register, Register::P(_)) && machines.iter().any(between);
-    if hides { all } else { elements }
 }

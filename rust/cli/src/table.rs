@@ -8,7 +8,7 @@ const ROW: usize = 64;
 /// One state of the register.
 pub struct Side<'a> {
     pub name: &'a str,
-    pub values: &'a [u64],
+    pub values: &'a [i128],
 }
 
 /// How elements are written.
@@ -64,8 +64,8 @@ pub fn block(label: &str, sides: &[Side], kind: Kind, paint: Paint) -> String {
 }
 
 fn rows(
-    values: &[u64],
-    other: Option<&[u64]>,
+    values: &[i128],
+    other: Option<&[i128]>,
     kind: Kind,
     cell: usize,
     in_a_row: usize,
@@ -82,7 +82,7 @@ fn rows(
     }
     let indexes = values.len().saturating_sub(1).to_string().len();
     let chunks = values.chunks(in_a_row).enumerate();
-    let row = |(number, chunk): (usize, &[u64])| {
+    let row = |(number, chunk): (usize, &[i128])| {
         let start = number * in_a_row;
         let mut row = paint.faint(&format!("{start:>indexes$}:"));
         for (place, value) in chunk.iter().enumerate() {
@@ -108,7 +108,7 @@ mod tests {
     #[test]
     fn rows_of_numbers_and_of_truths() {
         let before = [0; 10];
-        let after: Vec<u64> = (0..10).map(|n| n * 11_111).collect();
+        let after: Vec<i128> = (0..10).map(|n| n * 11_111).collect();
         let sides = [
             Side {
                 name: "before",
@@ -125,7 +125,15 @@ mod tests {
              after   0:     0 11111 22222 33333 44444 55555 66666 77777\n              \
              8: 88888 99999\n"
         );
-        let bits: Vec<u64> = (0..16).map(|n| u64::from(n < 3)).collect();
+        let side = Side {
+            name: "after",
+            values: &[-5, 12, -32768, 0],
+        };
+        assert_eq!(
+            block("z0.h", &[side], Kind::Numbers, Paint(false)),
+            "z0.h  after  0:     -5     12 -32768      0\n"
+        );
+        let bits: Vec<i128> = (0..16).map(|n| i128::from(n < 3)).collect();
         let side = Side {
             name: "after",
             values: &bits,

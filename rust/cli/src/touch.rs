@@ -9,56 +9,42 @@ use crate::register::Register::{self, P, W, Z, Zt0};
 pub struct Touch {
     pub reads: Vec<Register>,
     pub writes: Vec<Register>,
-    /// The width of the elements that it writes: UQRSHRNB's with the zeros
-    /// above them, which are as wide as its sources.
-    pub width: u32,
 }
 
 pub fn touch(instruction: Instruction) -> Touch {
-    let (reads, writes, width) = match instruction {
-        Instruction::Pext1 {
-            size, counter, pd, ..
-        } => (vec![P(counter)], vec![P(pd)], size),
-        Instruction::Pext2 {
-            size, counter, pd, ..
-        } => (vec![P(counter)], vec![P(pd), P((pd + 1) % 16)], size),
+    let (reads, writes) = match instruction {
+        Instruction::Pext1 { counter, pd, .. } => (vec![P(counter)], vec![P(pd)]),
+        Instruction::Pext2 { counter, pd, .. } => (vec![P(counter)], vec![P(pd), P((pd + 1) % 16)]),
         Instruction::Dup {
-            size,
-            index,
-            pg,
-            pn,
-            pd,
-            ..
-        } => (vec![P(pg), P(pn), W(index)], vec![P(pd)], size),
-        Instruction::Luti4c { size, zn, zd, .. } => {
-            (vec![Z(zn), Zt0], (0..4).map(|r| Z(zd + r)).collect(), size)
+            index, pg, pn, pd, ..
+        } => (vec![P(pg), P(pn), W(index)], vec![P(pd)]),
+        Instruction::Luti4c { zn, zd, .. } => {
+            (vec![Z(zn), Zt0], (0..4).map(|r| Z(zd + r)).collect())
         }
-        Instruction::Luti4s { size, zn, zd, .. } => (
-            vec![Z(zn), Zt0],
-            (0..4).map(|r| Z(zd + 4 * r)).collect(),
-            size,
-        ),
-        Instruction::Uqrshrnb { size, zn, zd, .. } => (vec![Z(zn)], vec![Z(zd)], 2 * size),
+        Instruction::Luti4s { zn, zd, .. } => {
+            (vec![Z(zn), Zt0], (0..4).map(|r| Z(zd + 4 * r)).collect())
+        }
+        // The even elements stay.
+        Instruction::Narrow {
+            narrowing, zn, zd, ..
+        } if narrowing.t() => (vec![Z(zn), Z(zd)], vec![Z(zd)]),
+        Instruction::Narrow { zn, zd, .. } => (vec![Z(zn)], vec![Z(zd)]),
     };
-    Touch {
-        reads,
-        writes,
-        width,
-    }
+    Touch { reads, writes }
 }
 
 /// Why two instructions conflict: a register that one writes and the other
 /// reads or writes, with what each does. The names are those that the two are
 /// to be called by.
 pub fn reason(first: (&str, &Touch), second: (&str, &Touch)) -> Option<String> {
-    let reads_or_writes = |touch: &Touch, register: &Register| {
-        if touch.writes.contains(register) {
-            Some("writes")
-        } else if touch.reads.contains(register) {
-            Some("reads")
-        } else {
-            None
-        }
+    let reads_or_writes = |touch: &Touch, register: &Register| match (
+        touch.reads.contains(register),
+        touch.writes.contains(register),
+    ) {
+        (true, true) => Some("reads and writes"),
+        (true, false) => Some("reads"),
+        (false, true) => Some("writes"),
+        (false, false) => None,
     };
     let meets = |(one, its): (&str, &Touch), (other, touch): (&str, &Touch)| {
         its.writes.iter().find_map(|register| {
@@ -69,9 +55,14 @@ pub fn reason(first: (&str, &Touch), second: (&str, &Touch)) -> Option<String> {
     meets(first, second).or_else(|| meets(second, first))
 }
 
-/// `z0 and zt0`, `nothing`.
+/// `z0 and zt0`, `nothing`; each register once.
 pub fn listed(registers: &[Register]) -> String {
-    let names: Vec<String> = registers.iter().map(Register::to_string).collect();
+    let mut names: Vec<String> = Vec::new();
+    for name in registers.iter().map(Register::to_string) {
+        if !names.contains(&name) {
+            names.push(name);
+        }
+    }
     match names.as_slice() {
         [] => "nothing".to_string(),
         [one] => one.clone(),

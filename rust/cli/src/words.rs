@@ -65,7 +65,7 @@ pub fn decode_all(words: &[&str]) -> Result<(String, Status), Failure> {
 pub fn encode(arguments: &[&str]) -> Result<String, Failure> {
     let failure = |message: String| Failure::new("gighull encode", message);
     let Some((name, fields)) = arguments.split_first() else {
-        let example = "gighull encode UQRSHRNB size=8 shift=3 zn=1 zd=2";
+        let example = "gighull encode SQRSHRNT size=16 shift=3 zn=1 zd=2";
         return Err(failure(format!("which form? {example}")));
     };
     let form = word::form(name).ok_or_else(|| {

@@ -111,6 +111,15 @@ fn conflict() {
         &["conflict", "25207010", "x"],
         "gighull conflict: 'x' is no word",
     );
+    // A word with a T reads what it writes.
+    let text = told(&["conflict", "45282c22", "45282c62"], 0);
+    assert_eq!(
+        text,
+        "conflict: yes\n\
+         45282c22 SQRSHRNT size=8 shift=8 zn=1 zd=2: reads z1 and z2, writes z2\n\
+         45282c62 SQRSHRNT size=8 shift=8 zn=3 zd=2: reads z3 and z2, writes z2\n\
+         the first writes z2 and the second reads and writes it\n"
+    );
     let output = gighull(&["conflict", "25207010", "00000000"]);
     assert_eq!(output.status.code(), Some(2));
     let said = "gighull conflict: 00000000: 3: undefined: no layout, with its condition, matches\n";

@@ -62,7 +62,8 @@ fn wrong_number(random: &mut Random, text: &str) -> Vec<u8> {
     let numbers = runs(text, |letter| letter.is_ascii_digit());
     let run = numbers[below(random, numbers.len())];
     let wrong = [
-        "-1",
+        "--1",
+        "-99999999999999999999",
         "1.5",
         "12x",
         "0x",
@@ -147,7 +148,7 @@ fn a_hundred_damaged_lessons() {
     for part in [
         ":1: ",
         "end",
-        "no number from 0 to",
+        "is no number from -2147483648 to 4294967295",
         "there is no",
         "elements at VL",
     ] {

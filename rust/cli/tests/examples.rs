@@ -76,9 +76,18 @@ fn examples_of_the_help() {
             checked += 1;
         }
     }
-    assert_eq!(checked, 3);
+    assert_eq!(checked, 4);
     assert_eq!(told(&["help"], 0), text);
     assert_eq!(told(&["decode", "-h"], 0), text);
+}
+
+#[test]
+fn the_help_names_every_form() {
+    let text = told(&["--help"], 0);
+    let words: Vec<&str> = text.split_whitespace().collect();
+    for form in gighull::Form::ALL {
+        assert!(words.contains(&form.name()), "{form}");
+    }
 }
 
 #[test]
@@ -104,7 +113,7 @@ fn examples_of_the_lessons_page() {
         .iter()
         .filter(|example| !example.lines.is_empty())
         .collect();
-    assert!(runs.len() >= 5, "{}", runs.len());
+    assert!(runs.len() >= 6, "{}", runs.len());
     for example in runs {
         check(example, Path::new(ROOT));
     }

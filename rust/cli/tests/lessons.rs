@@ -34,7 +34,7 @@ fn stored_outputs_are_the_reference_s() {
         assert_eq!(found.steps, steps);
         count += 1;
     }
-    assert!(count >= 6, "{count}");
+    assert!(count >= 7, "{count}");
 }
 
 #[test]
@@ -76,6 +76,7 @@ fn the_comparison_notices() {
     let diode = stored("diode");
     let counters = stored("counters");
     let order = stored("order");
+    let signed = stored("signed");
     let wrong = [
         ("diode", diode.replace("17387", "17388")),
         ("diode", diode.replace("0x10", "0x14")),
@@ -88,6 +89,11 @@ fn the_comparison_notices() {
         ("order", order.replace("word 0 writes", "word 1 writes")),
         ("order", without(&order, "order 2 0", 6)),
         ("order", without(&order, "z8.h  lesson", 2)),
+        ("signed", signed.replace("-26516", "-26517")),
+        // The same bits without their sign.
+        ("signed", signed.replace("-32768", " 32768")),
+        ("signed", signed.replace("-600000", "4294367296")),
+        ("signed", without(&signed, "z8.h", 2)),
     ];
     for (place, (name, text)) in wrong.into_iter().enumerate() {
         assert_ne!(text, stored(name), "edit {place} edits nothing");
@@ -148,21 +154,41 @@ fn the_curve_passes_by_its_points() {
     assert!(finer[..9].iter().all(|&value| value < 65535));
 }
 
-/// The drawing has the eleven points, as the register has them.
-#[test]
-fn the_curve_is_drawn() {
-    let folder = folder("curve");
-    let path = folder.join("diode.svg");
-    let arguments = ["run", "lessons/diode.lesson", "--plot", "z8.s:0-10"];
+/// A drawing has as many points, as the register has them.
+fn is_drawn(name: &str, register: &str, part: &str, count: usize) {
+    let path = folder(&format!("curve-{name}")).join("curve.svg");
+    let drawn = format!("{register}{part}");
+    let lesson_path = format!("lessons/{name}.lesson");
+    let arguments = ["run", &lesson_path, "--plot", &drawn];
     told(&[&arguments[..], &[path.to_str().unwrap()]].concat(), 0);
     let svg = fs::read_to_string(path).unwrap();
-    let expected = lesson(&lesson_text("diode"), None);
-    let z8 = elements(&expected.end, "z8.s", expected.setting.vl);
-    for (index, value) in z8[..11].iter().enumerate() {
+    let expected = lesson(&lesson_text(name), None);
+    let values = expected.numbers(&expected.end, register, expected.done);
+    for (index, value) in values[..count].iter().enumerate() {
         let title = format!("<title>element {index}: {value}</title>");
         assert!(svg.contains(&title), "{title}");
     }
-    assert_eq!(svg.matches("<circle").count(), 11);
+    assert_eq!(svg.matches("<circle").count(), count);
     assert_eq!(svg.matches("<polyline").count(), 1);
-    assert!(svg.contains(">element of z8.s<") && svg.contains(">value<"));
+    assert!(svg.contains(&format!(">element of {register}<")) && svg.contains(">value<"));
+}
+
+#[test]
+fn curves_are_drawn() {
+    is_drawn("diode", "z8.s", ":0-10", 11);
+    is_drawn("signed", "z8.h", "", 8);
+}
+
+/// What the page says of the wave: cut at each end, and ties upwards.
+#[test]
+fn the_wave_is_cut_at_each_end() {
+    let text = lesson_text("signed");
+    let stored = |text: &str| {
+        let found = lesson(text, None);
+        found.numbers(&found.end, "z8.h", found.done)
+    };
+    let wave = [0, 26517, 32767, 26517, 0, -26516, -32768, -26516];
+    assert_eq!(stored(&text), wave);
+    let finer = stored(&text.replace("shift=4", "shift=5"));
+    assert_eq!(finer, [0, 13258, 18750, 13258, 0, -13258, -18750, -13258]);
 }

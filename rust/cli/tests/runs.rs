@@ -17,14 +17,17 @@ fn lesson(folder: &Path, text: &str, options: &[&str], status: i32) -> String {
     out(&output)
 }
 
+fn has_all(told: &str, parts: &[&str]) {
+    for part in parts {
+        assert!(told.contains(part), "{part} is not in\n{told}");
+    }
+}
+
 #[test]
 fn answers_of_a_run() {
     let folder = folder("answers");
     let said = |text: &str, status, parts: &[&str]| {
-        let told = lesson(&folder, text, &[], status);
-        for part in parts {
-            assert!(told.contains(part), "{part} is not in\n{told}");
-        }
+        has_all(&lesson(&folder, text, &[], status), parts);
     };
     said(
         "end",
@@ -100,14 +103,12 @@ fn other_contents() {
     // A view that hides bits does not hide a change.
     let text = "vl 256\npn9 = counter b all\nshow pn8\nshow p8.d\n\
                 PEXT1 size=8 imm2=0 counter=9 pd=8\nend\n";
-    let told = lesson(&folder, text, &[], 0);
-    for part in [
+    let parts = [
         "pn8   after  0xffff",
         "p8.d  before  all 0\n",
         "p8.b  before  all 0\n",
-    ] {
-        assert!(told.contains(part), "{part} is not in\n{told}");
-    }
+    ];
+    has_all(&lesson(&folder, text, &[], 0), &parts);
     let copies = "45283801\n45283801\norder 1 0\nend";
     let told = lesson(&folder, copies, &[], 0);
     assert!(
@@ -128,6 +129,54 @@ fn other_contents() {
     assert!(
         told.contains("note     line 3 counts 100 elements, and at VL 128 four registers have 64")
     );
+}
+
+/// By which elements a narrowing word's result is told, and when with signs.
+#[test]
+fn results_with_and_without_signs() {
+    let folder = folder("signs");
+    let ends = |word: &str, end: &str| {
+        let text = format!("z0.h = -300 300 -1 5\n{word} size=8 shift=1 zn=0 zd=1\nend\n");
+        let told = lesson(&folder, &text, &[], 0);
+        assert!(told.ends_with(end), "{told}");
+    };
+    // -150 and 150 are cut, and -1/2 goes down.
+    ends(
+        "SQSHRNB",
+        "z1.b  before  all 0\n      \
+         after    0: -128    0  127    0   -1    0    2    0\n               \
+         8:    0    0    0    0    0    0    0    0\n",
+    );
+    ends(
+        "SQRSHRNT",
+        "z1.b  before  all 0\n      \
+         after    0:    0 -128    0  127    0    0    0    3\n               \
+         8:    0    0    0    0    0    0    0    0\n",
+    );
+    // -150 is 106 in its low half, -1/2 is 255.
+    ends(
+        "SHRNT",
+        "z1.b  before  all 0\n      \
+         after    0:   0 106   0 150   0 255   0   2   0   0   0   0   0   0   0   0\n",
+    );
+    // With the zeros above them, by the width of the sources.
+    ends(
+        "SHRNB",
+        "z1.h  before  all 0\n      after   0: 106 150 255   2   0   0   0   0\n",
+    );
+    ends(
+        "SQSHRUNB",
+        "z1.h  before  all 0\n      after   0:   0 150   0   2   0   0   0   0\n",
+    );
+    // The last word counts, and another width than the one with signs has none.
+    let text = "z0.h = -300 300\nz2.h = -1\nSQSHRNB size=8 shift=1 zn=0 zd=1\n\
+                UQSHRNT size=8 shift=8 zn=0 zd=1\nshow z2.h\nshow z2.s\nend\n";
+    let parts = [
+        "      after    0: 128 254 127   1   0   0",
+        "z2.h  unchanged  0: -1  0  0  0  0  0  0  0\n",
+        "z2.s  unchanged  0: 65535     0     0     0\n",
+    ];
+    has_all(&lesson(&folder, text, &[], 0), &parts);
 }
 
 /// What is wrong, and where.
@@ -179,6 +228,16 @@ fn wrong_lessons() {
         ("z0.h = 1 2 …\nend", "1: z0.h: … says too little"),
         ("z0.h = 0..8\nend", "1: z0.h has 8 elements at VL 128"),
         ("p0.b = 2\nend", "1: p0.b: '2' is no number from 0 to 1"),
+        ("p0.b = -1\nend", "1: p0.b: '-1' is no number from 0 to 1"),
+        (
+            "z0.h = 1 -32769\nend",
+            "1: z0.h: '-32769' is no number from -32768 to 65535",
+        ),
+        ("w12 = -1\nend", "1: w12: '-1' is no number from 0 to"),
+        (
+            "UQRSHRN size=8 shift=8 zn=0 zd=0\nend",
+            "1: 'UQRSHRN' is no form: PEXT1, ",
+        ),
         ("w12 = 4294967296\nend", "1: w12: '4294967296' is no number"),
         ("w16 = 1\nend", "1: there is no 'w16'"),
         ("pc = 1 2\nend", "1: pc: '1 2' is no number"),

@@ -2,12 +2,13 @@
 
 use std::sync::Mutex;
 
-use reference::instruction::Form;
-use reference::layout::form_by_fixed_bits;
+use reference::decode::decode;
+use reference::setting::FULL;
 
 use crate::case::{Case, Kind};
 use crate::check::{Agreed, check};
 use crate::draw::{draw, random_of};
+use crate::names::{self, Counts};
 use crate::shrink::shrink;
 use crate::threads::spread_over;
 
@@ -17,8 +18,8 @@ pub struct Tally {
     pub answers: [u64; 10],
     /// Of the answers 0, those with a yes or with bytes.
     pub yes: u64,
-    /// Of the steps that were done, the form.
-    pub forms: [u64; Form::ALL.len()],
+    /// Of the steps that were done, the word's name.
+    pub names: Counts,
 }
 
 impl Tally {
@@ -28,9 +29,9 @@ impl Tally {
         self.yes += u64::from(yes);
         if let Case::Step { word, .. } = case
             && number == 0
-            && let Some(form) = form_by_fixed_bits(*word)
+            && let Ok(instruction) = decode(FULL, *word)
         {
-            self.forms[form.number() as usize - 1] += 1;
+            names::count(instruction, &mut self.names);
         }
     }
 
@@ -38,13 +39,11 @@ impl Tally {
         for (sum, count) in self.answers.iter_mut().zip(other.answers) {
             *sum += count;
         }
-        for (sum, count) in self.forms.iter_mut().zip(other.forms) {
-            *sum += count;
-        }
+        names::add(&mut self.names, &other.names);
         self.yes += other.yes;
     }
 
-    /// `0: 5, 3: 7`, then the forms if there are any.
+    /// `0: 5, 3: 7`, then the names if words were done.
     pub fn shown(&self) -> String {
         let answers: Vec<String> = (0..10)
             .filter(|&number| self.answers[number] > 0)
@@ -54,13 +53,8 @@ impl Tally {
         if self.yes > 0 {
             text += &format!("; with a yes or bytes {}", self.yes);
         }
-        if self.forms != [0; Form::ALL.len()] {
-            let forms: Vec<String> = Form::ALL
-                .iter()
-                .zip(self.forms)
-                .map(|(form, count)| format!("{} {count}", form.name()))
-                .collect();
-            text += &format!("; done {}", forms.join(", "));
+        if self.names != Counts::default() {
+            text += &format!("; done {}", names::shown(&self.names));
         }
         text
     }

@@ -25,9 +25,9 @@ use compare::campaign::{Found, campaign};
 use compare::case::{Case, Kind};
 use compare::check::check;
 use compare::draw::ALLOWED_FEATURES;
+use compare::names;
 use compare::sweep;
 use gighull::ffi;
-use reference::instruction::Form;
 
 const USAGE: &str = "usage: compare all|KIND|sweep-decode|sweep-encode|near|gate [--seed S] \
                      [--count N] [--threads T] [--from WORD] [--to WORD], or compare replay CASE";
@@ -190,12 +190,8 @@ fn cases(kind: Kind, options: &Options) -> Result<(), Problem> {
 
 fn accepted(accepted: &sweep::Accepted) -> Result<(), Problem> {
     for (features, counts) in ALLOWED_FEATURES.iter().zip(accepted) {
-        let forms: Vec<String> = Form::ALL
-            .iter()
-            .zip(counts)
-            .map(|(form, count)| format!("{} {count}", form.name()))
-            .collect();
-        say(&format!("  features {features:>2}: {}", forms.join(", ")))?;
+        let counts = names::shown(counts);
+        say(&format!("  features {features:>2}: {counts}"))?;
     }
     Ok(())
 }

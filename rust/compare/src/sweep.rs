@@ -13,10 +13,11 @@ use crate::campaign::Found;
 use crate::case::Case;
 use crate::check::{check, numbers, reference_encode};
 use crate::draw::ALLOWED_FEATURES;
+use crate::names::{self, Counts};
 use crate::threads::spread_over;
 
-/// How many words are read as each form under each allowed feature number.
-pub type Accepted = [[u64; Form::ALL.len()]; ALLOWED_FEATURES.len()];
+/// How many words are read by each name under each allowed feature number.
+pub type Accepted = [Counts; ALLOWED_FEATURES.len()];
 
 /// What stands in the fields before a word is read.
 const MARK: [u32; ffi::FIELDS] = [0xa5a5_a5a5; ffi::FIELDS];
@@ -86,9 +87,7 @@ pub fn near(threads: usize) -> Result<(u64, Accepted), Box<Found>> {
 fn join(accepted: &Mutex<Accepted>, own: &Accepted) {
     let mut accepted = accepted.lock().unwrap();
     for (sums, counts) in accepted.iter_mut().zip(own) {
-        for (sum, count) in sums.iter_mut().zip(counts) {
-            *sum += count;
-        }
+        names::add(sums, counts);
     }
 }
 
@@ -106,7 +105,7 @@ fn one_word(vl: u32, word: u32, accepted: &mut Accepted) -> Result<(), Box<Case>
         let setting = Setting { vl, features };
         let expected = match reference::decode::decode(setting, word) {
             Ok(instruction) => {
-                counts[instruction.form().number() as usize - 1] += 1;
+                names::count(instruction, counts);
                 (0, numbers(instruction))
             }
             Err(refusal) => (refusal.number(), MARK),
@@ -213,12 +212,12 @@ impl Grid {
             Form::Luti4c | Form::Luti4s => {
                 [sizes, upto(4), registers(32), upto(40), none(), none()]
             }
-            Form::Uqrshrnb => [
-                sizes,
-                upto(66),
+            Form::Narrow => [
+                upto(17),
+                vec![0, 8, 9, 16, 24, 32, 64, 264],
+                (0..=33).chain([264]).collect(),
                 registers(32),
                 registers(32),
-                none(),
                 none(),
             ],
         };

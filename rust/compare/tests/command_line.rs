@@ -51,9 +51,20 @@ fn a_part_of_the_sweep_counts_what_is_read() {
     assert!(report.contains("16384 words from c08a8000"), "{report}");
     // i1 is 0 and the size 01 or 10; Zn and Zd are any.
     assert!(
-        report.contains("features 31: PEXT1 0, PEXT2 0, DUP 0, LUTI4C 512, LUTI4S 0, UQRSHRNB 0"),
+        report.contains("features 31: PEXT1 0, PEXT2 0, DUP 0, LUTI4C 512, LUTI4S 0, SQSHRUNB 0,"),
         "{report}"
     );
+}
+
+/// Each of the sixteen narrowing words is done in a part of the gate.
+#[test]
+fn every_narrowing_word_is_done() {
+    let report = text(&compare(&["step", "--count", "20000"]).stdout);
+    for name in reference::instruction::NARROW_NAMES {
+        let (_, rest) = report.split_once(&format!(" {name} ")).unwrap();
+        let digits = rest.split(|c: char| !c.is_ascii_digit()).next().unwrap();
+        assert!(digits.parse::<u32>().unwrap() > 50, "{name} in {report}");
+    }
 }
 
 #[test]

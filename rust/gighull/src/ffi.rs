@@ -33,7 +33,8 @@ pub const ARCHIVE: &str = env!("GIGHULL_ARCHIVE");
 pub const ARCHIVE_HASH: &str = env!("GIGHULL_ARCHIVE_HASH");
 
 /// The functions declared here, by their C names.
-pub const FUNCTIONS: [&str; 9] = [
+pub const FUNCTIONS: [&str; 10] = [
+    "gighull_interface_version",
     "gighull_step",
     "gighull_run",
     "gighull_decode",
@@ -51,6 +52,7 @@ pub mod c {
     use super::Scalars;
 
     unsafe extern "C" {
+        pub fn gighull_interface_version() -> u32;
         #[allow(clippy::too_many_arguments)]
         pub fn gighull_step(
             z: *mut u8,
@@ -142,6 +144,13 @@ pub mod c {
     }
 }
 
+/// The version of the interface that the library has.
+#[inline]
+pub fn interface_version() -> u32 {
+    // SAFETY: nothing is lent.
+    unsafe { c::gighull_interface_version() }
+}
+
 /// One word on the lent machine: document 01's number. Where it is not 0,
 /// nothing has changed.
 #[inline]
@@ -215,8 +224,8 @@ pub fn run(
 }
 
 /// What a word is read as: document 01's number. Where it is 0 and `fields` has
-/// seven places, they hold the form's place in the table, from 0, and its
-/// fields; else `fields` stays.
+/// seven places, they hold the form's number and its fields; else `fields`
+/// stays.
 #[inline]
 pub fn decode(vl: u32, features: u32, word: u32, fields: &mut [u32]) -> u32 {
     // SAFETY: the slice lives through the call, overlaps nothing else and is

@@ -1,10 +1,10 @@
-//! The six forms and their fields, as document 01 reads them.
+//! The forms and their fields, as document 01 reads them.
 
 use std::fmt;
 
-use crate::ffi;
+use crate::{Narrowing, ffi};
 
-/// A row of document 01's table.
+/// A row of document 01's table, or a word of the narrowing family.
 #[derive(Clone, Copy, Debug, PartialEq, Eq, Hash)]
 pub enum Form {
     Pext1,
@@ -12,29 +12,43 @@ pub enum Form {
     Dup,
     Luti4c,
     Luti4s,
-    Uqrshrnb,
+    Narrow(Narrowing),
 }
 
-impl Form {
-    /// In the order of the table.
-    pub const ALL: [Form; 6] = [
-        Form::Pext1,
-        Form::Pext2,
-        Form::Dup,
-        Form::Luti4c,
-        Form::Luti4s,
-        Form::Uqrshrnb,
-    ];
+/// The rows of the table that are one word each.
+const SINGLE: [Form; 5] = [
+    Form::Pext1,
+    Form::Pext2,
+    Form::Dup,
+    Form::Luti4c,
+    Form::Luti4s,
+];
 
-    /// The name in the table and in the listing.
-    pub const fn name(self) -> &'static str {
+impl Form {
+    /// In the order of the table, the narrowing words by number.
+    pub const ALL: [Form; SINGLE.len() + Narrowing::ALL.len()] = {
+        let mut all = [Form::Pext1; SINGLE.len() + Narrowing::ALL.len()];
+        let mut place = 0;
+        while place < all.len() {
+            all[place] = if place < SINGLE.len() {
+                SINGLE[place]
+            } else {
+                Form::Narrow(Narrowing::ALL[place - SINGLE.len()])
+            };
+            place += 1;
+        }
+        all
+    };
+
+    /// The name in the listing.
+    pub fn name(self) -> &'static str {
         match self {
             Form::Pext1 => "PEXT1",
             Form::Pext2 => "PEXT2",
             Form::Dup => "DUP",
             Form::Luti4c => "LUTI4C",
             Form::Luti4s => "LUTI4S",
-            Form::Uqrshrnb => "UQRSHRNB",
+            Form::Narrow(narrowing) => narrowing.name(),
         }
     }
 
@@ -45,7 +59,54 @@ impl Form {
             Form::Pext2 => &["size", "i1", "counter", "pd"],
             Form::Dup => &["size", "offset", "index", "pg", "pn", "pd"],
             Form::Luti4c | Form::Luti4s => &["size", "i1", "zn", "zd"],
-            Form::Uqrshrnb => &["size", "shift", "zn", "zd"],
+            Form::Narrow(_) => &["size", "shift", "zn", "zd"],
+        }
+    }
+
+    /// The instruction with these fields, in the order of their names; others
+    /// are not looked at.
+    pub const fn with(self, fields: [u32; 6]) -> Instruction {
+        let [a, b, c, d, e, f] = fields;
+        match self {
+            Form::Pext1 => Instruction::Pext1 {
+                size: a,
+                imm2: b,
+                counter: c,
+                pd: d,
+            },
+            Form::Pext2 => Instruction::Pext2 {
+                size: a,
+                i1: b,
+                counter: c,
+                pd: d,
+            },
+            Form::Dup => Instruction::Dup {
+                size: a,
+                offset: b,
+                index: c,
+                pg: d,
+                pn: e,
+                pd: f,
+            },
+            Form::Luti4c => Instruction::Luti4c {
+                size: a,
+                i1: b,
+                zn: c,
+                zd: d,
+            },
+            Form::Luti4s => Instruction::Luti4s {
+                size: a,
+                i1: b,
+                zn: c,
+                zd: d,
+            },
+            Form::Narrow(narrowing) => Instruction::Narrow {
+                narrowing,
+                size: a,
+                shift: b,
+                zn: c,
+                zd: d,
+            },
         }
     }
 }
@@ -101,7 +162,8 @@ pub enum Instruction {
         /// the first destination, 0 to 3 or 16 to 19
         zd: u32,
     },
-    Uqrshrnb {
+    Narrow {
+        narrowing: Narrowing,
         /// the result's size
         size: u32,
         shift: u32,
@@ -118,33 +180,25 @@ impl Instruction {
             Instruction::Dup { .. } => Form::Dup,
             Instruction::Luti4c { .. } => Form::Luti4c,
             Instruction::Luti4s { .. } => Form::Luti4s,
-            Instruction::Uqrshrnb { .. } => Form::Uqrshrnb,
+            Instruction::Narrow { narrowing, .. } => Form::Narrow(narrowing),
         }
     }
 
-    /// The library's seven numbers: the form's place in the table, from 0, then
-    /// the fields, then zeros.
-    ///
-    /// ```
-    /// use gighull::Instruction;
-    /// let narrow = Instruction::Uqrshrnb { size: 8, shift: 3, zn: 1, zd: 2 };
-    /// assert_eq!(narrow.numbers(), [5, 8, 3, 1, 2, 0, 0]);
-    /// assert_eq!(Instruction::from_numbers([5, 8, 3, 1, 2, 0, 0]), Some(narrow));
-    /// ```
-    pub const fn numbers(self) -> [u32; ffi::FIELDS] {
+    /// The values of its fields, in the order of their names, then zeros.
+    pub const fn fields(self) -> [u32; 6] {
         match self {
             Instruction::Pext1 {
                 size,
                 imm2,
                 counter,
                 pd,
-            } => [0, size, imm2, counter, pd, 0, 0],
+            } => [size, imm2, counter, pd, 0, 0],
             Instruction::Pext2 {
                 size,
                 i1,
                 counter,
                 pd,
-            } => [1, size, i1, counter, pd, 0, 0],
+            } => [size, i1, counter, pd, 0, 0],
             Instruction::Dup {
                 size,
                 offset,
@@ -152,77 +206,78 @@ impl Instruction {
                 pg,
                 pn,
                 pd,
-            } => [2, size, offset, index, pg, pn, pd],
-            Instruction::Luti4c { size, i1, zn, zd } => [3, size, i1, zn, zd, 0, 0],
-            Instruction::Luti4s { size, i1, zn, zd } => [4, size, i1, zn, zd, 0, 0],
-            Instruction::Uqrshrnb {
+            } => [size, offset, index, pg, pn, pd],
+            Instruction::Luti4c { size, i1, zn, zd } | Instruction::Luti4s { size, i1, zn, zd } => {
+                [size, i1, zn, zd, 0, 0]
+            }
+            Instruction::Narrow {
                 size,
                 shift,
                 zn,
                 zd,
-            } => [5, size, shift, zn, zd, 0, 0],
+                ..
+            } => [size, shift, zn, zd, 0, 0],
         }
     }
 
-    /// None for a form above 5. Of a form with four fields the last two
-    /// numbers are not looked at.
+    /// The library's seven numbers: the form's, then a narrowing word's own
+    /// number, then the fields, then zeros.
+    ///
+    /// ```
+    /// use gighull::{Instruction, Narrowing};
+    /// let narrowing = Narrowing::new(14).unwrap();
+    /// let narrow = Instruction::Narrow { narrowing, size: 8, shift: 3, zn: 1, zd: 2 };
+    /// assert_eq!(narrow.numbers(), [6, 14, 8, 3, 1, 2, 0]);
+    /// assert_eq!(Instruction::from_numbers([6, 14, 8, 3, 1, 2, 0]), Some(narrow));
+    /// assert_eq!(Instruction::from_numbers([6, 16, 8, 3, 1, 2, 0]), None);
+    /// assert_eq!(Instruction::from_numbers([5, 8, 3, 1, 2, 0, 0]), None);
+    /// ```
+    pub const fn numbers(self) -> [u32; ffi::FIELDS] {
+        let [a, b, c, d, e, f] = self.fields();
+        match self.form() {
+            Form::Pext1 => [0, a, b, c, d, e, f],
+            Form::Pext2 => [1, a, b, c, d, e, f],
+            Form::Dup => [2, a, b, c, d, e, f],
+            Form::Luti4c => [3, a, b, c, d, e, f],
+            Form::Luti4s => [4, a, b, c, d, e, f],
+            Form::Narrow(narrowing) => [6, narrowing.number(), a, b, c, d, e],
+        }
+    }
+
+    /// None for the form 5, a form above 6 and a narrowing word above 15.
+    /// Numbers after the form's own are not looked at.
     pub const fn from_numbers(numbers: [u32; ffi::FIELDS]) -> Option<Instruction> {
         let [form, a, b, c, d, e, f] = numbers;
-        Some(match form {
-            0 => Instruction::Pext1 {
-                size: a,
-                imm2: b,
-                counter: c,
-                pd: d,
-            },
-            1 => Instruction::Pext2 {
-                size: a,
-                i1: b,
-                counter: c,
-                pd: d,
-            },
-            2 => Instruction::Dup {
-                size: a,
-                offset: b,
-                index: c,
-                pg: d,
-                pn: e,
-                pd: f,
-            },
-            3 => Instruction::Luti4c {
-                size: a,
-                i1: b,
-                zn: c,
-                zd: d,
-            },
-            4 => Instruction::Luti4s {
-                size: a,
-                i1: b,
-                zn: c,
-                zd: d,
-            },
-            5 => Instruction::Uqrshrnb {
-                size: a,
-                shift: b,
-                zn: c,
-                zd: d,
-            },
+        if form == 6 {
+            return match Narrowing::new(a) {
+                Some(narrowing) => Some(Form::Narrow(narrowing).with([b, c, d, e, f, 0])),
+                None => None,
+            };
+        }
+        let form = match form {
+            0 => Form::Pext1,
+            1 => Form::Pext2,
+            2 => Form::Dup,
+            3 => Form::Luti4c,
+            4 => Form::Luti4s,
             _ => return None,
-        })
+        };
+        Some(form.with([a, b, c, d, e, f]))
     }
 }
 
 /// The form's name, then each field by its name.
 ///
 /// ```
-/// let narrow = gighull::Instruction::Uqrshrnb { size: 8, shift: 3, zn: 1, zd: 2 };
+/// use gighull::{Instruction, Narrowing};
+/// let narrowing = Narrowing::new(14).unwrap();
+/// let narrow = Instruction::Narrow { narrowing, size: 8, shift: 3, zn: 1, zd: 2 };
 /// assert_eq!(narrow.to_string(), "UQRSHRNB size=8 shift=3 zn=1 zd=2");
 /// ```
 impl fmt::Display for Instruction {
     fn fmt(&self, out: &mut fmt::Formatter) -> fmt::Result {
         out.write_str(self.form().name())?;
-        let fields = &self.numbers()[1..];
-        for (name, field) in self.form().field_names().iter().zip(fields) {
+        for (name, field) in self.form().field_names().iter().zip(self.fields()) {
             write!(out, " {name}={field}")?;
         }
         Ok(())

@@ -14,11 +14,14 @@
 //! - [`Refusal`]: document 01's numbers and words, as an error
 //! - [`ffi`]: the C interface as it stands, for files and lists of any length
 //!
+//! The build script refuses an archive whose interface has another version than
+//! [`INTERFACE_VERSION`].
+//!
 //! ```
-//! use gighull::{Instruction, Setting, decode, encode};
+//! use gighull::{Setting, decode, encode};
 //!
 //! let instruction = decode(Setting::FULL, 0x452f3822)?;
-//! assert_eq!(instruction, Instruction::Uqrshrnb { size: 8, shift: 1, zn: 1, zd: 2 });
+//! assert_eq!(instruction.to_string(), "UQRSHRNB size=8 shift=1 zn=1 zd=2");
 //! assert_eq!(encode(Setting::FULL, instruction)?, 0x452f3822);
 //! # Ok::<(), gighull::Refusal>(())
 //! ```
@@ -27,18 +30,22 @@ mod element;
 pub mod ffi;
 mod instruction;
 mod machine;
+mod narrowing;
 mod refusal;
 mod scalars;
 mod setting;
+mod version;
 
 pub use element::NoPlace;
-pub use ffi::{Scalars, step};
+pub use ffi::{Scalars, interface_version, step};
 pub use instruction::{Form, Instruction};
 pub use machine::{
     Machine, P_FILE_BYTES, P_REGISTERS, Z_FILE_BYTES, Z_REGISTERS, ZT0_ENTRIES, ZT0_FILE_BYTES,
 };
+pub use narrowing::Narrowing;
 pub use refusal::{Answer, Refusal, Stopped};
 pub use setting::{Setting, features};
+pub use version::INTERFACE_VERSION;
 
 /// The most words a run takes.
 pub const LONGEST_STRETCH: usize = 256;
@@ -60,7 +67,7 @@ pub fn decode(setting: Setting, word: u32) -> Answer<Instruction> {
     let number = ffi::decode(setting.vl, setting.features, word, &mut numbers);
     Refusal::answer(number)?;
     let instruction = Instruction::from_numbers(numbers);
-    Ok(instruction.expect("the library reads a word as one of six forms"))
+    Ok(instruction.expect("the library reads a word as one of its forms"))
 }
 
 /// The word that an instruction is written as.

@@ -52,7 +52,20 @@ static void step(uint32_t vl, uint32_t features, uint32_t word) {
     machine();
 }
 
+static void decode(uint32_t word) {
+    uint32_t fields[7] = {9, 9, 9, 9, 9, 9, 9};
+    uint32_t answer = gighull_decode(128, 31, word, fields, 7);
+    printf("decode answers %" PRIu32 ":", answer);
+    for (int i = 0; i < 7; i++) {
+        printf(" %" PRIu32, fields[i]);
+    }
+    uint32_t back = 9;
+    answer = gighull_encode(128, 31, fields, 7, &back);
+    printf("\nencode answers %" PRIu32 ": %08" PRIx32 "\n", answer, back);
+}
+
 int main(void) {
+    printf("interface version %" PRIu32 ", the header's %d\n", gighull_interface_version(), GIGHULL_INTERFACE_VERSION);
     printf("record size %zu align %zu\n", sizeof(struct gighull_scalars), _Alignof(struct gighull_scalars));
     printf("offsets %zu %zu %zu %zu %zu %zu %zu %zu\n", offsetof(struct gighull_scalars, w12),
            offsetof(struct gighull_scalars, w13), offsetof(struct gighull_scalars, w14),
@@ -75,23 +88,22 @@ int main(void) {
         step(256, 31, UINT32_C(0xc08a9000));
         step(256, 28, UINT32_C(0x25207010));
     }
+    /* Every narrowing word, on what the one before it left. */
+    fresh();
+    for (uint32_t number = 0; number < 16; number++) {
+        step(512, 31, UINT32_C(0x45630062) | number << 10);
+    }
     fresh();
     step(129, 31, 0);
     printf("step without files answers %" PRIu32 "\n",
            gighull_step(z, 0, p, 0, zt, 0, &scalars, 128, 31, UINT32_C(0x25207010)));
 
-    uint32_t fields[7] = {9, 9, 9, 9, 9, 9, 9};
-    uint32_t answer = gighull_decode(128, 31, UINT32_C(0x25e34c65), fields, 7);
-    printf("decode answers %" PRIu32 ":", answer);
-    for (int i = 0; i < 7; i++) {
-        printf(" %" PRIu32, fields[i]);
-    }
-    printf("\ndecode to nowhere answers %" PRIu32 "\n", gighull_decode(128, 31, 0, fields, 0));
-
+    decode(UINT32_C(0x25e34c65));
+    decode(UINT32_C(0x45352cbe));
     uint32_t word = 9;
-    answer = gighull_encode(128, 31, fields, 7, &word);
-    printf("encode answers %" PRIu32 ": %08" PRIx32 "\n", answer, word);
-    answer = gighull_encode(128, 31, fields, 0, &word);
+    uint32_t answer = gighull_decode(128, 31, 0, &word, 0);
+    printf("decode to nowhere answers %" PRIu32 ": %" PRIu32 "\n", answer, word);
+    answer = gighull_encode(128, 31, &answer, 0, &word);
     printf("encode of nothing answers %" PRIu32 ": %08" PRIx32 "\n", answer, word);
 
     uint8_t out[300];

@@ -9,7 +9,7 @@ use std::mem::{align_of, offset_of, size_of};
 use std::path::Path;
 use std::process::Command;
 
-use gighull::{Scalars, ffi};
+use gighull::{INTERFACE_VERSION, Narrowing, Scalars, ffi};
 
 const HEADERS: &str = concat!(env!("CARGO_MANIFEST_DIR"), "/../../include");
 const PROGRAM: &str = concat!(env!("CARGO_MANIFEST_DIR"), "/tests/header.c");
@@ -110,10 +110,23 @@ impl Lent {
     }
 }
 
+fn decode(word: u32) -> String {
+    let mut fields = [9; 7];
+    let answer = ffi::decode(128, 31, word, &mut fields);
+    let read = format!("decode answers {answer}: {}\n", spaced(&fields));
+    let mut back = 9;
+    let answer = ffi::encode(128, 31, &fields, &mut back);
+    format!("{read}encode answers {answer}: {back:08x}\n")
+}
+
 /// The same lines from Rust.
 fn said_by_rust() -> String {
     let mut said = String::new();
     let mut say = |line: String| said.push_str(&line);
+    say(format!(
+        "interface version {}, the header's {INTERFACE_VERSION}\n",
+        gighull::interface_version()
+    ));
     say(format!(
         "record size {} align {}\n",
         size_of::<Scalars>(),
@@ -147,20 +160,20 @@ fn said_by_rust() -> String {
         say(lent.step(256, 28, 0x2520_7010));
     }
     let mut lent = Lent::fresh();
+    for number in 0..16 {
+        say(lent.step(512, 31, 0x4563_0062 | number << 10));
+    }
+    let mut lent = Lent::fresh();
     say(lent.step(129, 31, 0));
     let scalars = &mut lent.scalars;
     let answer = ffi::step(&mut [], &mut [], &mut [], scalars, 128, 31, 0x2520_7010);
     say(format!("step without files answers {answer}\n"));
 
-    let mut fields = [9; 7];
-    let answer = ffi::decode(128, 31, 0x25e3_4c65, &mut fields);
-    say(format!("decode answers {answer}: {}\n", spaced(&fields)));
-    let answer = ffi::decode(128, 31, 0, &mut []);
-    say(format!("decode to nowhere answers {answer}\n"));
-
+    say(decode(0x25e3_4c65));
+    say(decode(0x4535_2cbe));
     let mut word = 9;
-    let answer = ffi::encode(128, 31, &fields, &mut word);
-    say(format!("encode answers {answer}: {word:08x}\n"));
+    let answer = ffi::decode(128, 31, 0, &mut []);
+    say(format!("decode to nowhere answers {answer}: {word}\n"));
     let answer = ffi::encode(128, 31, &[], &mut word);
     say(format!("encode of nothing answers {answer}: {word:08x}\n"));
 
@@ -218,6 +231,7 @@ fn c_and_rust_find_the_same() {
     assert_eq!(c, rust);
     // What they both find is not nothing: words are done, and refused.
     for part in [
+        "interface version 2, the header's 2\n",
         "record size 32 align 8\n",
         "answers 0 z",
         "answers 1 z",
@@ -227,6 +241,8 @@ fn c_and_rust_find_the_same() {
         "files answers 2",
         "decode answers 0: 2 64 1 15 3 3 5\n",
         "encode answers 0: 25e34c65\n",
+        "decode answers 0: 6 11 16 11 5 30 0\n",
+        "encode answers 0: 45352cbe\n",
         "encode of nothing answers 9: 00000000\n",
         "vector answers 64:",
         "predicate answers 8:",
@@ -257,9 +273,13 @@ fn in_the_archive() -> BTreeSet<String> {
         .collect()
 }
 
+fn header() -> String {
+    fs::read_to_string(Path::new(HEADERS).join("gighull.h")).unwrap()
+}
+
 /// The functions that the header declares: names that a parenthesis follows.
 fn in_the_header() -> BTreeSet<String> {
-    let text = fs::read_to_string(Path::new(HEADERS).join("gighull.h")).unwrap();
+    let text = header();
     let code: String = text
         .split("/*")
         .map(|part| part.split_once("*/").map_or(part, |(_, code)| code))
@@ -279,6 +299,18 @@ fn the_same_functions_everywhere() {
     let mut declared = rust;
     declared.insert("gighull_run_lent".to_string());
     assert_eq!(in_the_header(), declared);
+}
+
+/// The header has each narrowing word's name beside its number.
+#[test]
+fn the_header_s_names_are_the_library_s() {
+    let text = header();
+    let words: Vec<&str> = text.split_whitespace().collect();
+    for narrowing in Narrowing::ALL {
+        let pair = [&*narrowing.number().to_string(), narrowing.name()];
+        let count = words.windows(2).filter(|words| **words == pair).count();
+        assert_eq!(count, 1, "{pair:?}");
+    }
 }
 
 /// The record's fields are the library's: each index register is the one that

@@ -2,6 +2,8 @@
 //! instructions, register bytes and listings. Steps and runs are in
 //! `interpreter.rs`.
 
+use std::collections::BTreeSet;
+
 use gighull::ffi;
 use reference::encode::encode;
 use reference::instruction::{Form, Instruction};
@@ -10,7 +12,7 @@ use reference::refusal::number_of;
 use reference::samples::{
     failing_word, fields_in_range, listing_words, matching_word, near_miss, values_outside,
 };
-use reference::setting::{ALL_FEATURES, Setting, VECTOR_LENGTHS};
+use reference::setting::{ALL_FEATURES, FULL, Setting, VECTOR_LENGTHS};
 use reference::stretches::any_setting;
 
 fn raw_encode(vl: u32, features: u32, numbers: &[u32]) -> (u32, u32) {
@@ -55,6 +57,8 @@ fn same_reading(setting: Setting, word: u32) -> u32 {
     }
     if number == 0 {
         assert_eq!(raw_encode(vl, features, &fields), (0, word));
+        let instruction = gighull::Instruction::from_numbers(fields).unwrap();
+        assert_eq!(instruction.numbers(), fields);
     }
     number
 }
@@ -106,25 +110,26 @@ fn writings() {
             outside[place] = random.pick(values_outside(form, place));
             counts[same_writing(setting, form, outside) as usize] += 1;
         }
-        // What a form with four fields does not look at.
-        if form.field_count() == 4 {
-            let mut more = fields;
-            more[4] = random.next_u32();
-            more[5] = random.next_u32();
-            same_writing(setting, form, more);
+        // What a form does not look at.
+        let mut more = fields;
+        for field in &mut more[form.field_count()..] {
+            *field = random.next_u32();
         }
+        same_writing(setting, form, more);
     }
     let [done, not_allowed, _, undefined, _, _, _, _, _, out_of_range] = counts;
     let all = [done, not_allowed, undefined, out_of_range];
     assert!(all.iter().all(|&count| count > 100), "{counts:?}");
 }
 
-/// A form above 5 and lists of another length are 9, where the setting is
-/// allowed.
+/// The form 5, a form above 6, a narrowing word above 15 and lists of another
+/// length are 9, where the setting is allowed.
 #[test]
 fn writings_of_no_instruction() {
-    for form in [6, 7, 256, 65536, u32::MAX] {
-        let numbers = [form, 8, 0, 8, 0, 0, 0];
+    let forms = [5, 7, 8, 256, 65536, u32::MAX].map(|form| [form, 8, 8, 8, 8, 0, 0]);
+    let words = [16, 17, 256, 65536, u32::MAX].map(|word| [6, word, 8, 8, 8, 0, 0]);
+    for numbers in forms.into_iter().chain(words) {
+        assert_eq!(gighull::Instruction::from_numbers(numbers), None);
         assert_eq!(raw_encode(128, ALL_FEATURES, &numbers), (9, 0));
         assert_eq!(raw_encode(128, 0, &numbers), (9, 0));
         assert_eq!(raw_encode(128, 32, &numbers), (1, 0));
@@ -135,6 +140,26 @@ fn writings_of_no_instruction() {
         assert_eq!(raw_encode(128, ALL_FEATURES, &numbers), (9, 0));
         assert_eq!(raw_encode(0, ALL_FEATURES, &numbers), (1, 0));
     }
+}
+
+/// A word's name is that of its form, stands in its line, and is the reference's.
+#[test]
+fn names() {
+    let mut random = Random::new(67);
+    let mut seen = BTreeSet::new();
+    for _ in 0..5_000 {
+        let form = random.pick(&Form::ALL);
+        let word = matching_word(&mut random, form);
+        let name = gighull::decode(gighull::Setting::FULL, word)
+            .map(|instruction| instruction.form().name())
+            .unwrap();
+        let expected = reference::decode::decode(FULL, word).unwrap();
+        assert_eq!(name, expected.name());
+        let line = format!("{word:08x} {name}\n");
+        assert_eq!(gighull::lines(&word.to_le_bytes()), line);
+        seen.insert(name);
+    }
+    assert_eq!(seen.len(), gighull::Form::ALL.len());
 }
 
 type Request = fn(&[u8], u32, u32, &mut [u8]) -> usize;

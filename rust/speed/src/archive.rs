@@ -20,6 +20,8 @@ pub const COPIES: usize = 4;
 pub struct Archive {
     /// FNV-1a of its bytes, in hex.
     pub hash: String,
+    /// The version of its interface.
+    pub version: u32,
     copies: Vec<Functions>,
 }
 
@@ -41,14 +43,18 @@ impl Archive {
         write(&archive, bytes)?;
         link(&archive, &object)?;
         let code = fs::read(&object).map_err(|error| format!("{}: {error}", object.display()))?;
+        let mut version = 0;
         let copies = (0..COPIES).map(|number| {
             let copy = path(&format!("{number}.so"));
             write(&copy, &code)?;
-            Functions::of(&Object::open(&copy)?)
+            let object = Object::open(&copy)?;
+            version = Functions::version(&object);
+            Functions::of(&object)
         });
         Ok(Archive {
             hash: hash(bytes),
             copies: copies.collect::<Result<_, String>>()?,
+            version,
         })
     }
 
@@ -165,6 +171,7 @@ mod tests {
     fn an_archive_does_its_work() {
         let archive = Archive::open(OsStr::new(ffi::ARCHIVE)).unwrap();
         assert_eq!(archive.hash, ffi::ARCHIVE_HASH);
+        assert_eq!(archive.version, gighull::INTERFACE_VERSION);
         for round in 0..2 * COPIES {
             let (input, mut out) = ([0x10, 0x70, 0x20, 0x25, 0xff], [0; 40]);
             assert_eq!(archive.functions(round).lines(&input, &mut out), (5, 23));

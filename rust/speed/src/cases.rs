@@ -2,7 +2,7 @@
 //! steps, and the machine that they start on.
 
 use reference::decode::decode;
-use reference::instruction::Form;
+use reference::instruction::{Form, Instruction, NARROW_NAMES};
 use reference::random::Random;
 use reference::samples::{listing_words, matching_word};
 use reference::setting::FULL;
@@ -50,6 +50,8 @@ impl<Scalars> Machine<Scalars> {
 pub enum Kind {
     /// One form and size.
     Form(Form),
+    /// One narrowing word, by op:U:R:T, and size.
+    Narrow(u32),
     /// DUP of an element that is false.
     False,
     /// Every form.
@@ -91,21 +93,62 @@ impl Case {
     }
 }
 
-pub fn cases() -> Vec<Case> {
+/// Which words there are.
+#[derive(Clone, Copy, PartialEq, Eq)]
+pub enum Words {
+    All,
+    /// Those that archives with version 1 of the interface know too: of the
+    /// narrowing words UQRSHRNB alone.
+    Old,
+}
+
+/// UQRSHRNB's op:U:R:T.
+pub const UQRSHRNB: u32 = 0b1110;
+
+impl Words {
+    /// The word, or one that is in its place.
+    pub fn known(self, word: u32) -> u32 {
+        match decode(FULL, word) {
+            Ok(Instruction::Narrow { .. }) if self == Words::Old => narrow(word, UQRSHRNB),
+            _ => word,
+        }
+    }
+
+    fn has(self, bits: u32) -> bool {
+        self == Words::All || bits == UQRSHRNB
+    }
+}
+
+/// The narrowing word with this op:U:R:T and the same fields.
+fn narrow(word: u32, bits: u32) -> u32 {
+    word & !0x3c00 | bits << 10
+}
+
+pub fn cases(known: Words) -> Vec<Case> {
     let (mut cases, mut steps) = (Vec::new(), Vec::new());
-    for form in Form::ALL {
+    let mut both = |name: &str, size, kind, words: Vec<u32>| {
+        let name = format!("{name} {}", letter(size));
+        steps.push(Case::steps(&name, kind, words.clone()));
+        cases.push(Case::stretch(&name, kind, words));
+    };
+    for form in Form::ALL.into_iter().filter(|&form| form != Form::Narrow) {
         for &size in sizes(form) {
-            let name = format!("{} {}", form.name(), letter(size));
-            let (kind, words) = (Kind::Form(form), of_form(form, size));
-            steps.push(Case::steps(&name, kind, words.clone()));
-            cases.push(Case::stretch(&name, kind, words));
+            both(form.name(), size, Kind::Form(form), of_form(form, size));
+        }
+    }
+    for (bits, name) in (0..).zip(NARROW_NAMES).filter(|&(bits, _)| known.has(bits)) {
+        for &size in sizes(Form::Narrow) {
+            let words = of_form(Form::Narrow, size).into_iter();
+            let words = words.map(|word| narrow(word, bits)).collect();
+            both(name, size, Kind::Narrow(bits), words);
         }
     }
     let falses = of_false(&of_form(Form::Dup, 8));
     cases.push(Case::stretch("DUP B, false", Kind::False, falses));
     for seed in 1..=3 {
         let name = format!("mixed, {seed}");
-        cases.push(Case::stretch(&name, Kind::Mixed, mixed(seed)));
+        let words = mixed(seed).into_iter().map(|word| known.known(word));
+        cases.push(Case::stretch(&name, Kind::Mixed, words.collect()));
     }
     cases.extend(steps);
     let undefined = vec![0x2520_4000; STRETCH];
@@ -113,11 +156,12 @@ pub fn cases() -> Vec<Case> {
         answer: 3,
         ..Case::steps("undefined", Kind::Refused, undefined)
     });
-    let narrow = of_form(Form::Uqrshrnb, 8);
+    let closed = of_form(Form::Narrow, 8).into_iter();
+    let closed = closed.map(|word| narrow(word, UQRSHRNB)).collect();
     cases.push(Case {
         answer: 4,
         open: false,
-        ..Case::steps("V closed", Kind::Refused, narrow)
+        ..Case::steps("V closed", Kind::Refused, closed)
     });
     cases
 }
@@ -127,7 +171,7 @@ fn sizes(form: Form) -> &'static [u32] {
         Form::Pext1 | Form::Pext2 | Form::Dup => &[8, 16, 32, 64],
         Form::Luti4c => &[16, 32],
         Form::Luti4s => &[16],
-        Form::Uqrshrnb => &[8, 16, 32],
+        Form::Narrow => &[8, 16, 32],
     }
 }
 
@@ -144,20 +188,25 @@ fn mixed(seed: u64) -> Vec<u32> {
 }
 
 /// Words of a form and size whose sources no one of them writes: the two halves
-/// of a file are apart, and P7 is left to the false elements.
+/// of a file are apart, and P7 is left to the false elements. (What a narrowing
+/// word with T keeps of its destination is no such source.)
 fn of_form(form: Form, size: u32) -> Vec<u32> {
-    let mut random = Random::new(u64::from(form.number() * 64 + size));
+    // The place in the table, from 1: the same words as in earlier figures.
+    let place = Form::ALL.iter().position(|&known| known == form);
+    let place = place.expect("ALL has every form") as u64 + 1;
+    let mut random = Random::new(place * 64 + u64::from(size));
     let mut words = Vec::new();
     while words.len() < STRETCH {
         let word = matching_word(&mut random, form);
         let fields = decode(FULL, word).expect("the word matches").fields();
-        let apart = match form {
-            Form::Pext1 => fields[3] < 8,
-            Form::Pext2 => fields[3] < 7,
-            Form::Dup => fields[3] < 7 && fields[4] < 7 && fields[5] >= 8,
-            Form::Luti4c | Form::Luti4s | Form::Uqrshrnb => fields[2] < 16 && fields[3] >= 16,
+        let (found, apart) = match form {
+            Form::Pext1 => (fields[0], fields[3] < 8),
+            Form::Pext2 => (fields[0], fields[3] < 7),
+            Form::Dup => (fields[0], fields[3] < 7 && fields[4] < 7 && fields[5] >= 8),
+            Form::Luti4c | Form::Luti4s => (fields[0], fields[2] < 16 && fields[3] >= 16),
+            Form::Narrow => (fields[1], fields[3] < 16 && fields[4] >= 16),
         };
-        if apart && fields[0] == size {
+        if apart && found == size {
             words.push(word);
         }
     }
@@ -167,4 +216,47 @@ fn of_form(form: Form, size: u32) -> Vec<u32> {
 /// The same with P7, which holds no true element, as Pn.
 fn of_false(words: &[u32]) -> Vec<u32> {
     words.iter().map(|word| word & !0x1e0 | 7 << 5).collect()
+}
+
+#[cfg(test)]
+mod tests {
+    use super::*;
+
+    #[test]
+    fn every_word_of_a_row_has_its_name_and_size() {
+        for case in cases(Words::All) {
+            let Kind::Narrow(bits) = case.kind else {
+                continue;
+            };
+            let name = NARROW_NAMES[bits as usize];
+            assert_eq!(case.words.len(), STRETCH);
+            for word in case.words {
+                let instruction = decode(FULL, word).unwrap();
+                let row = format!("{} {}", instruction.name(), letter(instruction.fields()[1]));
+                assert!(case.name.ends_with(&row) && row.starts_with(name), "{row}");
+            }
+        }
+    }
+
+    /// Nothing but what an archive with version 1 of the interface knows, which
+    /// is also among all.
+    #[test]
+    fn old_words_are_old() {
+        let old = cases(Words::Old);
+        for case in &old {
+            for &word in &case.words {
+                if let Ok(Instruction::Narrow { bits, .. }) = decode(FULL, word) {
+                    assert_eq!(bits, UQRSHRNB);
+                }
+            }
+        }
+        let names =
+            |cases: Vec<Case>| -> Vec<String> { cases.into_iter().map(|case| case.name).collect() };
+        let (old, all) = (names(old), names(cases(Words::All)));
+        assert!(old.iter().all(|name| all.contains(name)));
+        // 15 words at three sizes, run and stepped.
+        assert_eq!(all.len() - old.len(), 15 * 3 * 2);
+        assert!(all.contains(&"SQRSHRNT H".to_string()));
+        assert!(old.contains(&"step: UQRSHRNB S".to_string()));
+    }
 }

@@ -45,10 +45,12 @@ type Step = unsafe extern "C" fn(
     u32,
 ) -> u32;
 type Lines = unsafe extern "C" fn(*const u8, usize, *mut u8, usize, *mut usize) -> usize;
+type Version = unsafe extern "C" fn() -> u32;
 
 /// The types are those of the declarations, which a test compares with the
 /// header.
 const _: (Run, Step, Lines) = (c::gighull_run, c::gighull_step, c::gighull_lines);
+const _: Version = c::gighull_interface_version;
 
 /// Each file begins with a cache line: where it does changes times by some per
 /// cent.
@@ -94,6 +96,15 @@ impl Functions {
                 step: transmute::<*mut c_void, Step>(step),
                 lines: transmute::<*mut c_void, Lines>(lines),
             })
+        }
+    }
+
+    /// The version of an object's interface; 1 where it says none.
+    pub(crate) fn version(object: &Object) -> u32 {
+        match object.function(c"gighull_interface_version") {
+            // SAFETY: as above; nothing is lent.
+            Ok(version) => unsafe { transmute::<*mut c_void, Version>(version)() },
+            Err(_) => 1,
         }
     }
 

@@ -152,7 +152,7 @@ mod tests {
 
     #[test]
     fn other_answers_are_counted() {
-        let case = &crate::cases::cases()[0];
+        let case = &crate::cases::cases(crate::cases::Words::All)[0];
         let (mut wrong, mut passes) = (0, 0);
         let time = timed(case, 128, 5, &mut wrong, |vl, words| {
             passes += 1;

@@ -102,11 +102,14 @@ fn archivespeed_has_a_line_for_each_case_and_length() {
     let output = archivespeed(&[ARCHIVE, ARCHIVE, "1"]);
     assert!(output.status.success(), "{output:?}");
     let report = text(&output.stdout);
-    // 22 stretches and 20 times steps at three lengths, and the listing.
-    let lines = 5 + (22 + 20) * 3 + 1 + 1;
+    // 67 stretches and 65 times steps at three lengths, and the listing.
+    let lines = 5 + (67 + 65) * 3 + 1 + 1;
     assert_eq!(report.lines().count(), lines, "{report}");
     for part in [
         "\n| PEXT1 B | 128 | ",
+        "\n| SQSHRUNB B | 128 | ",
+        "\n| SQRSHRNT H | 2048 | ",
+        "\n| step: UQRSHRNT S | 512 | ",
         "\n| DUP B, false | 512 | ",
         "\n| mixed, 3 | 2048 | ",
         "\n| step: V closed | 128 | ",
@@ -116,6 +119,29 @@ fn archivespeed_has_a_line_for_each_case_and_length() {
         assert_eq!(report.matches(part).count(), 1, "{part} in {report}");
     }
     assert_eq!(report.matches(ARCHIVE_HASH).count(), 2, "{report}");
+}
+
+/// An archive that says no version of its interface is given only words that
+/// were there before the narrowing words.
+#[test]
+fn archivespeed_times_old_words_with_an_old_archive() {
+    let old = format!("{}/old.a", new_folder("old-archive"));
+    let hide = "--localize-symbol=gighull_interface_version";
+    assert!(called("objcopy", &[hide, ARCHIVE, &old]).status.success());
+    for arguments in [[&old, ARCHIVE, "1"], [ARCHIVE, &old, "1"]] {
+        let output = archivespeed(&arguments);
+        assert!(output.status.success(), "{output:?}");
+        let report = text(&output.stdout);
+        // 22 stretches and 20 times steps at three lengths, and the listing.
+        let lines = 5 + (22 + 20) * 3 + 1 + 1;
+        assert_eq!(report.lines().count(), lines, "{report}");
+        let row = |start: &str| report.lines().find(|line| line.starts_with(start));
+        let narrow = row("| UQRSHRNB H | 2048 | ").unwrap();
+        assert!(narrow.contains(" | 1.25"), "{narrow}");
+        let pext = row("| PEXT1 B | 128 | ").unwrap();
+        assert!(pext.contains(" | 1.05"), "{pext}");
+        assert_eq!(row("| SQRSHRNT H"), None);
+    }
 }
 
 #[test]

@@ -26,8 +26,8 @@ luti4c-requires c κs = search needs
 luti4s-requires : tie.Need-luti4s-requires
 luti4s-requires c κs = search needs
 
-uqrshrnb-requires : tie.Need-uqrshrnb-requires
-uqrshrnb-requires c κs = search needs
+narrow-requires : tie.Need-narrow-requires
+narrow-requires c κs = search needs
 
 same-length : tie.Need-same-length
 same-length c = search needs
@@ -63,7 +63,7 @@ same-length-6 : tie.Need-same-length-6
 same-length-6 c = search needs
 
 returns-6 : tie.Need-returns-6
-returns-6 c = let b = c .before .before .before .before in c .before .before .uqrshrnb .ensures _ _ _ refl (record { checked = b .before .before .before .before .before .pre; place = sym (b .match .keys6) ∙ b .before .place .ensures })
+returns-6 c = let b = c .before .before .before .before in c .before .before .narrow .ensures _ _ _ refl (record { checked = b .before .before .before .before .before .pre; place = sym (b .match .keys6) ∙ b .before .place .ensures })
 
 returns-7 : tie.Need-returns-7
 returns-7 c = no-row _ _ (c .before .place .result) _ (record { checked = c .before .before .before .before .before .pre; place = c .before .place .ensures }) (none-below-at-least (length rows) (c .before .place .result) (c .match .rest))
@@ -78,7 +78,7 @@ step-in-run-spec =
     dup-requires
     luti4c-requires
     luti4s-requires
-    uqrshrnb-requires
+    narrow-requires
     same-length
     returns
     same-length-2

@@ -21,6 +21,9 @@ enum-known-instruction-5 c = search needs
 enum-known-instruction-6 : tie.Need-enum-known-instruction-6
 enum-known-instruction-6 c = search needs
 
+narrow-number-requires : tie.Need-narrow-number-requires
+narrow-number-requires c κs = search needs
+
 returns : tie.Need-returns
 returns c = rw (c .before .instruction .given .1)
 
@@ -37,7 +40,7 @@ returns-5 : tie.Need-returns-5
 returns-5 c = rw (c .before .instruction5 .given .1)
 
 returns-6 : tie.Need-returns-6
-returns-6 c = rw (c .before .instruction6 .given .1)
+returns-6 c = rw (c .before .before .instruction6 .given .1, c .narrow-number .ensures)
 
 pub numbers-spec : {M : Type 1} → statement M
 numbers-spec =
@@ -49,6 +52,7 @@ numbers-spec =
     enum-known-instruction-4
     enum-known-instruction-5
     enum-known-instruction-6
+    narrow-number-requires
     returns
     returns-2
     returns-3

@@ -91,8 +91,11 @@ pub enum Start {
 /// element, at whatever length the vectors have.
 #[derive(Clone, Debug, PartialEq, Eq)]
 pub struct Values {
+    /// By their bits.
     pub list: Vec<u64>,
     pub repeat: bool,
+    /// One of them is written with a sign.
+    pub signed: bool,
 }
 
 #[derive(Clone, Copy, Debug, PartialEq, Eq)]

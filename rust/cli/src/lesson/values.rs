@@ -14,7 +14,7 @@ pub fn number(text: &str) -> Option<u64> {
     } else {
         (text, 10)
     };
-    // from_str_radix takes a sign, and a lesson has none.
+    // from_str_radix takes a sign, which only elements have here.
     let plain = digits.bytes().all(|digit| digit.is_ascii_alphanumeric());
     plain.then(|| u64::from_str_radix(digits, base).ok())?
 }
@@ -24,6 +24,21 @@ pub fn number_up_to(what: &str, text: &str, greatest: u64) -> Result<u64, String
     number(text)
         .filter(|&value| value <= greatest)
         .ok_or_else(|| format!("{what}: {} is no number from 0 to {greatest}", quoted(text)))
+}
+
+/// A value of an element, with a sign or without.
+fn value(elements: Elements, text: &str) -> Result<i128, String> {
+    let (least, greatest) = (elements.least().into(), elements.greatest().into());
+    let found = match text.strip_prefix('-') {
+        Some(digits) => number(digits).map(|value| -i128::from(value)),
+        None => number(text).map(i128::from),
+    };
+    found
+        .filter(|value| (least..=greatest).contains(value))
+        .ok_or_else(|| {
+            let text = quoted(text);
+            format!("{elements}: {text} is no number from {least} to {greatest}")
+        })
 }
 
 /// The values of a register by element, at most as many as it has elements.
@@ -37,8 +52,7 @@ pub fn values(elements: Elements, text: &str, vl: u32) -> Result<Values, String>
         return Err(format!("{elements}: there are no values"));
     }
     let name = elements.to_string();
-    let greatest = elements.greatest();
-    let mut list = Vec::new();
+    let mut list: Vec<i128> = Vec::new();
     for token in tokens {
         if matches!(token, "..." | "…") {
             return Err(format!(
@@ -47,12 +61,8 @@ pub fn values(elements: Elements, text: &str, vl: u32) -> Result<Values, String>
         }
         let room = elements.count(vl) as usize - list.len();
         let found = match token.split_once("..") {
-            Some((from, to)) => {
-                let from = number_up_to(&name, from, greatest)?;
-                let to = number_up_to(&name, to, greatest)?;
-                range(from, to, room)
-            }
-            None => Some(vec![number_up_to(&name, token, greatest)?]).filter(|_| room > 0),
+            Some((from, to)) => range(value(elements, from)?, value(elements, to)?, room),
+            None => Some(vec![value(elements, token)?]).filter(|_| room > 0),
         };
         let count = elements.count(vl);
         list.extend(
@@ -61,13 +71,18 @@ pub fn values(elements: Elements, text: &str, vl: u32) -> Result<Values, String>
             })?,
         );
     }
-    Ok(Values { list, repeat })
+    let bits = |value: &i128| *value as u64 & elements.greatest();
+    Ok(Values {
+        signed: list.iter().any(|&value| value < 0),
+        list: list.iter().map(bits).collect(),
+        repeat,
+    })
 }
 
 /// The whole numbers from one to another, up or down; none where they are
 /// more than there is room for.
-fn range(from: u64, to: u64, room: usize) -> Option<Vec<u64>> {
-    if from.abs_diff(to) >= room as u64 {
+fn range(from: i128, to: i128, room: usize) -> Option<Vec<i128>> {
+    if from.abs_diff(to) >= room as u128 {
         return None;
     }
     Some(if from <= to {
@@ -168,11 +183,24 @@ mod tests {
         );
         for text in [
             "", "repeat", "65536", "0..8", "0..7 8", "1 2 ...", "0..65535", "1..", "..2",
-            "repeat 1", "1,2",
+            "repeat 1", "1,2", "-32769", "--1", "-", "- 1", "+1", "-0x8001", "-4..4",
         ] {
             assert!(list(text).is_err(), "{text}");
         }
+        assert_eq!(
+            list("-1 -32768 -0x10 65535"),
+            Ok(vec![65535, 32768, 65520, 65535])
+        );
+        assert_eq!(list("-2..1 0..-1"), Ok(vec![65534, 65535, 0, 1, 0, 65535]));
+        let signed = |text| values(z, text, 128).map(|values| values.signed);
+        assert_eq!([signed("1 65535"), signed("1 -1")], [Ok(false), Ok(true)]);
+        let truths = Elements::from_name("p0.h").unwrap();
+        assert!(values(truths, "-1", 128).is_err());
         let wide = Elements::from_name("z0.d").unwrap();
+        assert_eq!(
+            values(wide, "-9223372036854775808", 128).map(|values| values.list),
+            Ok(vec![1 << 63])
+        );
         assert!(values(wide, "0..18446744073709551615", 2048).is_err());
     }
 }

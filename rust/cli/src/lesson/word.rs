@@ -58,13 +58,11 @@ pub fn instruction(form: Form, fields: &[&str]) -> Result<Instruction, String> {
         let value = value.ok_or_else(|| format!("{form}: {} is no number", quoted(field)))?;
         found[place] = Some(value);
     }
-    let mut numbers = [0; gighull::ffi::FIELDS];
-    let place = Form::ALL.into_iter().position(|known| known == form);
-    numbers[0] = place.expect("ALL has every form") as u32;
-    for ((number, value), name) in numbers[1..].iter_mut().zip(&found).zip(names) {
-        *number = value.ok_or_else(|| format!("{form}: field {name} is missing"))?;
+    let mut values = [0; 6];
+    for ((field, value), name) in values.iter_mut().zip(&found).zip(names) {
+        *field = value.ok_or_else(|| format!("{form}: field {name} is missing"))?;
     }
-    Ok(Instruction::from_numbers(numbers).expect("the form is one of six"))
+    Ok(form.with(values))
 }
 
 /// The word of an instruction, or the bench's answer with the ranges. A word
@@ -92,7 +90,7 @@ pub const fn ranges(form: Form) -> &'static str {
         }
         Form::Luti4c => "size 16 or 32; i1 0 or 1; zn 0 to 31; zd a multiple of 4 up to 28",
         Form::Luti4s => "size 16; i1 0 or 1; zn 0 to 31; zd 0 to 3 or 16 to 19",
-        Form::Uqrshrnb => "size 8, 16 or 32; shift 1 to size; zn, zd 0 to 31",
+        Form::Narrow(_) => "size 8, 16 or 32; shift 1 to size; zn, zd 0 to 31",
     }
 }
 
@@ -106,6 +104,8 @@ mod tests {
         assert_eq!(word("0xC08A9000"), Ok(0xc08a_9000));
         let narrow = "uqrshrnb zd=1 zn=0 size=8 shift=8";
         assert_eq!(word(narrow), Ok(0x4528_3801));
+        let top = "SQRSHRNT size=16 shift=3 zn=1 zd=2";
+        assert_eq!(word(top), Ok(0x453d_2c22));
         for text in [
             "",
             "4528380",
@@ -114,6 +114,7 @@ mod tests {
             "45283801 1",
             "NOP",
             "UQRSHRNB",
+            "UQRSHRN size=8 shift=8 zn=0 zd=1",
             "UQRSHRNB size=8 shift=8 zn=0",
             "UQRSHRNB size=8 shift=9 zn=0 zd=1",
             "UQRSHRNB size=8 shift=8 zn=0 zd=1 zd=1",

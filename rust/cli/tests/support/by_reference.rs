@@ -4,11 +4,13 @@
 
 use reference::bits;
 use reference::counter::Counter;
+use reference::decode::decode;
 use reference::encode::encode;
-use reference::instruction::{Form, Instruction};
+use reference::instruction::{Form, Instruction, NARROW_NAMES};
 use reference::machine::Machine;
 use reference::run::run;
 use reference::setting::{FULL, Setting};
+use reference::touch::{Register, touch};
 
 pub struct Lesson {
     pub setting: Setting,
@@ -18,6 +20,45 @@ pub struct Lesson {
     pub done: usize,
     pub words: Vec<u32>,
     pub orders: Vec<Vec<usize>>,
+    /// The registers that are given values with signs, by name and width.
+    signed: Vec<String>,
+}
+
+impl Lesson {
+    /// Whether elements such as `z8.h` have a sign after the first words: the
+    /// last of these that wrote the register gives such results, or none wrote
+    /// it and the lesson gives it values with signs.
+    fn has_sign(&self, name: &str, words: usize) -> bool {
+        let Some((register, letter)) = name.strip_prefix('z').and_then(|z| z.split_once('.'))
+        else {
+            return false;
+        };
+        let register = Register::Z(register.parse().unwrap());
+        let last = self.words[..words]
+            .iter()
+            .map(|&word| decode(FULL, word).unwrap())
+            .rfind(|&instruction| touch(instruction).writes.contains(&register));
+        match last {
+            // op is set and U is clear.
+            Some(Instruction::Narrow { bits, size, .. }) => {
+                bits & 0b1100 == 0b1000 && size as usize == width(letter)
+            }
+            Some(_) => false,
+            None => self.signed.iter().any(|signed| signed == name),
+        }
+    }
+
+    /// All elements of a register as numbers, after the first words.
+    pub fn numbers(&self, machine: &Machine, name: &str, words: usize) -> Vec<i128> {
+        let values = elements(machine, name, self.setting.vl).into_iter();
+        if !self.has_sign(name, words) {
+            return values.map(i128::from).collect();
+        }
+        let half = 1i128 << (width(name.split_once('.').unwrap().1) - 1);
+        values
+            .map(|value| (i128::from(value) + half) % (2 * half) - half)
+            .collect()
+    }
 }
 
 /// The lesson at a vector length, or at its own.
@@ -26,6 +67,7 @@ pub fn lesson(text: &str, vl: Option<u32>) -> Lesson {
     let mut start = Machine::zero();
     let mut words = Vec::new();
     let mut orders = Vec::new();
+    let mut signed = Vec::new();
     for line in text.lines() {
         let line = line.split('#').next().unwrap().trim();
         let tokens: Vec<&str> = line.split_whitespace().collect();
@@ -39,7 +81,12 @@ pub fn lesson(text: &str, vl: Option<u32>) -> Lesson {
                 let register = name.strip_prefix("pn").unwrap().parse().unwrap();
                 set_counter(&mut start, register, counter, setting.vl);
             }
-            [name, "=", values @ ..] => set_elements(&mut start, name, values, setting.vl),
+            [name, "=", values @ ..] => {
+                if values.iter().any(|value| value.starts_with('-')) {
+                    signed.push(name.to_string());
+                }
+                set_elements(&mut start, name, values, setting.vl);
+            }
             [form, fields @ ..] => words.push(word(form, fields)),
         }
     }
@@ -53,6 +100,7 @@ pub fn lesson(text: &str, vl: Option<u32>) -> Lesson {
         done: outcome.done,
         words,
         orders,
+        signed,
     }
 }
 
@@ -113,7 +161,10 @@ fn set_elements(machine: &mut Machine, name: &str, values: &[&str], vl: u32) {
                 let count = vl as usize / width;
                 list = list.iter().copied().cycle().take(count).collect();
             }
-            None => list.push(value.parse().unwrap()),
+            None => {
+                let value: i128 = value.parse().unwrap();
+                list.push(value.rem_euclid(1 << width) as u128);
+            }
         }
     }
     let number = |prefix| register.strip_prefix(prefix).unwrap().parse().unwrap();
@@ -167,23 +218,30 @@ fn set_counter(machine: &mut Machine, register: u32, told: &[&str], vl: u32) {
 }
 
 fn word(name: &str, fields: &[&str]) -> u32 {
-    let form = Form::ALL.into_iter().find(|form| form.name() == name);
+    let bits = NARROW_NAMES.iter().position(|known| *known == name);
+    let form = match bits {
+        Some(_) => Some(Form::Narrow),
+        None => Form::ALL.into_iter().find(|form| form.name() == name),
+    };
     let form = form.unwrap_or_else(|| panic!("the lessons have no line {name}"));
     let order: &[&str] = match form {
         Form::Pext1 => &["size", "imm2", "counter", "pd"],
         Form::Pext2 => &["size", "i1", "counter", "pd"],
         Form::Dup => &["size", "offset", "index", "pg", "pn", "pd"],
         Form::Luti4c | Form::Luti4s => &["size", "i1", "zn", "zd"],
-        Form::Uqrshrnb => &["size", "shift", "zn", "zd"],
+        Form::Narrow => &["size", "shift", "zn", "zd"],
     };
     assert_eq!(fields.len(), order.len());
-    let mut numbers = [0; 6];
-    for (number, name) in numbers.iter_mut().zip(order) {
+    // A narrowing word's own number comes before its fields.
+    let mut numbers: Vec<u32> = bits.into_iter().map(|bits| bits as u32).collect();
+    for name in order {
         let field = fields.iter().find_map(|field| {
             let (given, value) = field.split_once('=')?;
             (given == *name).then(|| value.parse().unwrap())
         });
-        *number = field.unwrap();
+        numbers.push(field.unwrap());
     }
+    numbers.resize(6, 0);
+    let numbers = numbers.try_into().unwrap();
     encode(FULL, Instruction::from_fields(form, numbers)).unwrap()
 }

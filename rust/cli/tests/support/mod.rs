@@ -9,7 +9,7 @@ use std::path::{Path, PathBuf};
 use std::process::{Command, Output};
 
 pub const ROOT: &str = concat!(env!("CARGO_MANIFEST_DIR"), "/../..");
-pub const LESSONS: [&str; 3] = ["diode", "counters", "order"];
+pub const LESSONS: [&str; 4] = ["diode", "counters", "order", "signed"];
 
 /// The command, from the repository's root, where lessons have short names.
 pub fn gighull(arguments: &[&str]) -> Output {

@@ -2,7 +2,7 @@
 
 use std::collections::BTreeMap;
 
-use super::by_reference::{Lesson, counter_bits, elements};
+use super::by_reference::{Lesson, counter_bits};
 use reference::counter::Counter;
 use reference::machine::Machine;
 use reference::rearrangement::{Permission, permitted};
@@ -22,12 +22,14 @@ pub struct Compared {
 struct Pair {
     first: Machine,
     second: Machine,
+    /// How many words were done on the way.
+    words: usize,
     told: BTreeMap<String, Vec<Side>>,
 }
 
 struct Side {
     name: String,
-    values: Vec<u64>,
+    values: Vec<i128>,
     /// It is told as `all 7`.
     all: bool,
 }
@@ -49,7 +51,7 @@ pub fn compare(text: &str, lesson: &Lesson) -> Compared {
             [] | ["lesson", _] | ["no", "register", "changed"] => {}
             ["setting", "VL", length, ..] => assert_eq!(*length, format!("{vl};")),
             ["word", place, "line", _, word, ..] => {
-                finish(pair.take(), vl, &mut compared);
+                finish(pair.take(), lesson, &mut compared);
                 let place: usize = place.trim_end_matches(',').parse().unwrap();
                 assert_eq!(place, compared.steps);
                 let expected = lesson.words[place];
@@ -59,23 +61,23 @@ pub fn compare(text: &str, lesson: &Lesson) -> Compared {
                 let (from, to) = (first.pc, stepped.pc);
                 let answer = format!("answer   0: done; pc {from:#x} -> {to:#x}");
                 assert_eq!(lines.next(), Some(&*answer));
-                pair = Some(Pair::new(first, stepped.clone()));
                 compared.steps += 1;
+                pair = Some(Pair::new(first, stepped.clone(), compared.steps));
             }
             ["answer", "0:", "done"] => {
-                finish(pair.take(), vl, &mut compared);
+                finish(pair.take(), lesson, &mut compared);
                 assert_eq!(lesson.answer, 0);
             }
             ["words", done, "of", all, "done"] => {
                 assert_eq!([*done, *all], [lesson.done, count].map(|n| n.to_string()));
-                pair = Some(Pair::new(lesson.start.clone(), lesson.end.clone()));
+                pair = Some(Pair::new(lesson.start.clone(), lesson.end.clone(), count));
             }
             ["pc", from, "->", to] => {
                 let pcs = [lesson.start.pc, lesson.end.pc].map(|pc| format!("{pc:#x}"));
                 assert_eq!([*from, *to], pcs);
             }
             ["order", ..] => {
-                finish(pair.take(), vl, &mut compared);
+                finish(pair.take(), lesson, &mut compared);
                 let order = orders.next().expect("the lesson has no more orders");
                 pair = ordered(line, &mut lines, order, lesson);
                 compared.orders += 1;
@@ -98,17 +100,18 @@ pub fn compare(text: &str, lesson: &Lesson) -> Compared {
             }
         }
     }
-    finish(pair, vl, &mut compared);
+    finish(pair, lesson, &mut compared);
     assert!(orders.next().is_none(), "an order is not told");
     compared
 }
 
 impl Pair {
-    fn new(first: Machine, second: Machine) -> Pair {
+    fn new(first: Machine, second: Machine, words: usize) -> Pair {
         let told = BTreeMap::new();
         Pair {
             first,
             second,
+            words,
             told,
         }
     }
@@ -135,7 +138,7 @@ impl Pair {
         for cell in &tokens[start + 1..] {
             if register.starts_with('p') {
                 let truths = cell.chars().map(|truth| truth.to_digit(2).unwrap());
-                side.values.extend(truths.map(u64::from));
+                side.values.extend(truths.map(i128::from));
             } else {
                 side.values.push(cell.parse().unwrap());
             }
@@ -144,19 +147,21 @@ impl Pair {
 }
 
 /// What was told of two machines is right, and is all.
-fn finish(pair: Option<Pair>, vl: u32, compared: &mut Compared) {
+fn finish(pair: Option<Pair>, lesson: &Lesson, compared: &mut Compared) {
+    let vl = lesson.setting.vl;
     let Some(Pair {
         first,
         second,
+        words,
         told,
     }) = pair
     else {
         return;
     };
     for (register, sides) in &told {
-        let [was, is] = [&first, &second].map(|machine| elements(machine, register, vl));
+        let [was, is] = [&first, &second].map(|machine| lesson.numbers(machine, register, words));
         let names: Vec<&str> = sides.iter().map(|side| &*side.name).collect();
-        let expected: Vec<&Vec<u64>> = match names.as_slice() {
+        let expected: Vec<&Vec<i128>> = match names.as_slice() {
             ["unchanged"] => {
                 assert_eq!(was, is);
                 vec![&is]
@@ -234,7 +239,7 @@ fn ordered<'a>(
     }
     assert_ne!(permission, Permission::Permitted);
     assert_eq!(ended, "it ended differently:");
-    Some(Pair::new(lesson.end.clone(), end))
+    Some(Pair::new(lesson.end.clone(), end, words.len()))
 }
 
 /// `0x0027: the first 19 of 64 elements .b`

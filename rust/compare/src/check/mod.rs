@@ -153,9 +153,8 @@ fn decode(setting: Setting, word: u32, room: usize) -> Checked {
     agreed(number)
 }
 
-/// What the reference writes seven numbers as. It knows forms, not their
-/// numbers, so a form above 5 and another length are told here, as the header
-/// has them: 9, behind 1.
+/// What the reference writes seven numbers as. A number of no form and another
+/// length are told here, as the header has them: 9, behind 1.
 pub fn reference_encode(setting: Setting, numbers: &[u32]) -> Result<u32, Refusal> {
     let form = numbers
         .first()

@@ -1,5 +1,6 @@
 //! Seeded cases: random and structured, sound and damaged.
 
+mod edges;
 mod machines;
 mod orders;
 mod settings;
@@ -8,6 +9,7 @@ mod words;
 use reference::random::Random;
 use reference::setting::VECTOR_LENGTHS;
 
+use self::edges::fill_source;
 use self::machines::{any_bytes, damage_length, machine};
 use self::orders::permitted;
 use self::settings::{length_of_no_vector, setting};
@@ -37,18 +39,31 @@ pub fn draw(kind: Kind, random: &mut Random) -> Case {
             setting: setting(random),
             numbers: numbers(random),
         },
-        Kind::Step => Case::Step {
-            setting: setting(random),
-            word: word(random),
-            machine: machine(random),
-        },
+        Kind::Step => {
+            let setting = setting(random);
+            let word = word(random);
+            let mut machine = machine(random);
+            if random.coin() {
+                fill_source(random, word, &mut machine);
+            }
+            Case::Step {
+                setting,
+                word,
+                machine,
+            }
+        }
         Kind::Run => {
             let setting = setting(random);
             let words = stretch(random, setting);
+            let mut machine = machine(random);
+            if !words.is_empty() {
+                let word = random.pick(&words);
+                fill_source(random, word, &mut machine);
+            }
             Case::Run {
                 setting,
                 words,
-                machine: machine(random),
+                machine,
             }
         }
         Kind::Conflict => conflict(random),

@@ -12,10 +12,22 @@ use reference::values::{FIELD_VALUES, PRINTED_WORDS};
 
 use super::one_in;
 
+/// The narrowing words are sixteen, and come more often than the others.
+const FORMS: [Form; 8] = [
+    Form::Pext1,
+    Form::Pext2,
+    Form::Dup,
+    Form::Luti4c,
+    Form::Luti4s,
+    Form::Narrow,
+    Form::Narrow,
+    Form::Narrow,
+];
+
 /// Mostly a word of a layout; else a bit or two away from one, failing its
 /// condition, printed in document 01, or any.
 pub fn word(random: &mut Random) -> u32 {
-    let form = random.pick(&Form::ALL);
+    let form = random.pick(&FORMS);
     match random.below(32) {
         0 | 1 => flipped_word(random, form, 1),
         2 => flipped_word(random, form, 2),
@@ -51,9 +63,9 @@ fn written(random: &mut Random, form: Form, near: bool) -> u32 {
                 fields[2] = random.pick(&[0, 1, 4, 8, 12, 16, 17, 20, 28, 31]);
                 fields[3] = random.pick(&[0, 1, 3, 16, 19]);
             }
-            Form::Uqrshrnb => {
-                fields[2] = random.pick(&[0, 1, 2, 3, 4, 16, 31]);
+            Form::Narrow => {
                 fields[3] = random.pick(&[0, 1, 2, 3, 4, 16, 31]);
+                fields[4] = random.pick(&[0, 1, 2, 3, 4, 16, 31]);
             }
         }
     }
@@ -65,7 +77,7 @@ fn written(random: &mut Random, form: Form, near: bool) -> u32 {
 /// Fields in range, with one of them or more near its range and outside it, or
 /// any of the numbers that may hurt; seldom no instruction at all.
 pub fn numbers(random: &mut Random) -> Vec<u32> {
-    let form = random.pick(&Form::ALL);
+    let form = random.pick(&FORMS);
     let mut fields = fields_in_range(random, form);
     match random.below(4) {
         0 => {}
@@ -92,7 +104,7 @@ pub fn numbers(random: &mut Random) -> Vec<u32> {
     let mut numbers = vec![form.number() - 1];
     numbers.extend_from_slice(&fields);
     if one_in(random, 16) {
-        numbers[0] = random.pick(&[6, 7, 255, 256, 65536, 1 << 31, u32::MAX]);
+        numbers[0] = random.pick(&[5, 7, 8, 255, 256, 65536, 1 << 31, u32::MAX]);
     }
     if one_in(random, 16) {
         numbers.resize(random.pick(&[0, 1, 4, 5, 6, 8, 14]), 0);
@@ -122,12 +134,12 @@ pub fn stretch(random: &mut Random, setting: Setting) -> Vec<u32> {
 
 /// Of any form where the setting has none.
 pub fn defined_words(random: &mut Random, setting: Setting, length: usize) -> Vec<u32> {
-    let mut forms: Vec<Form> = Form::ALL
+    let mut forms: Vec<Form> = FORMS
         .into_iter()
         .filter(|&form| has_features(form, setting))
         .collect();
     if forms.is_empty() {
-        forms.extend(Form::ALL);
+        forms.extend(FORMS);
     }
     let near = random.coin();
     let mut words = Vec::with_capacity(length);

@@ -1,8 +1,9 @@
 //! `leafspeed [ROUNDS [cleared]]`
 //!
 //! Times stretches of 256 words through the proved library's run and through
-//! the baseline's, in ns a word: for each form and element size 256 words with
-//! other fields and registers, and mixed stretches of all forms. At VL 128, 512
+//! the baseline's, in ns a word: for each form (each of the sixteen narrowing
+//! words) and element size 256 words with other fields and registers, and mixed
+//! stretches of all forms. At VL 128, 512
 //! and 2048. Both sides start from the same machine, and must end alike in
 //! every answer and byte. A round times both, the one that goes first changing
 //! from round to round, and gives a ratio proved/baseline; the table has the
@@ -14,8 +15,8 @@
 //! 128.
 //!
 //! The files are random, and no word of a form's row writes what one of them
-//! reads, so that the sources stay random: DUP's chosen element is true about
-//! every second time. Where it is always false the baseline's loop is passed
+//! reads (but for what a word with T keeps of its own destination), so that the
+//! sources stay random: DUP's chosen element is true about every second time. Where it is always false the baseline's loop is passed
 //! over; the row "DUP B, false" shows that, with no bar of its own.
 //!
 //! With `cleared` every file is zeros at the start, as for a long session. Then
@@ -26,7 +27,7 @@ use std::hint::black_box;
 use std::process::ExitCode;
 
 use reference::instruction::Form;
-use speed::cases::{Case, FEATURES, Files, Kind, LENGTHS, Machine, W, cases};
+use speed::cases::{Case, FEATURES, Files, Kind, LENGTHS, Machine, UQRSHRNB, W, Words, cases};
 use speed::fail;
 use speed::timing::{Outcome, Rounds, passes_in_a_round, steps, timed};
 
@@ -50,7 +51,7 @@ fn main() -> ExitCode {
     println!("|---|---|---|---|---|---|---|---|");
     let mut over = 0;
     for vl in LENGTHS {
-        for case in cases() {
+        for case in cases(Words::All) {
             match measure(&case, vl, rounds, files) {
                 Ok(row) => {
                     let bar = bar(&case, vl, files);
@@ -80,7 +81,10 @@ fn main() -> ExitCode {
 fn bar(case: &Case, vl: u32, files: Files) -> f64 {
     let bars = match (case.kind, files) {
         _ if case.stepped => [2.5, f64::INFINITY],
-        (Kind::Form(Form::Uqrshrnb), _) => [1.05, 0.7],
+        (Kind::Narrow(UQRSHRNB), _) => [1.05, 0.7],
+        // op:U is 01: SHRN and RSHRN, which do not saturate.
+        (Kind::Narrow(bits), _) if bits >> 2 == 0b01 => [1.05, 1.2],
+        (Kind::Narrow(_), _) => [1.05, 0.9],
         (Kind::Form(Form::Luti4c | Form::Luti4s), _) => [1.05, 0.4],
         (Kind::Form(_), Files::Random) => [1.05, 0.4],
         (Kind::Form(_), Files::Cleared) => [1.05, 1.05],

@@ -38,11 +38,11 @@ luti4s-requires c κs = search needs
 luti4s-requires-2 : tie.Need-luti4s-requires-2
 luti4s-requires-2 c κs = search needs
 
-uqrshrnb-requires : tie.Need-uqrshrnb-requires
-uqrshrnb-requires c κs = search needs
+narrow-requires : tie.Need-narrow-requires
+narrow-requires c κs = search needs
 
-uqrshrnb-requires-2 : tie.Need-uqrshrnb-requires-2
-uqrshrnb-requires-2 c κs = search needs
+narrow-requires-2 : tie.Need-narrow-requires-2
+narrow-requires-2 c κs = search needs
 
 returns : tie.Need-returns
 returns c = rw (c .before .before .match .keys1) (c .pext12 .ensures ∙ c .before .pext1 .ensures .0)
@@ -60,7 +60,7 @@ returns-5 : tie.Need-returns-5
 returns-5 c = rw (c .before .before .match .keys5) (c .luti4s2 .ensures ∙ c .before .luti4s .ensures .0)
 
 returns-6 : tie.Need-returns-6
-returns-6 c = rw (c .before .before .match .keys6) (c .uqrshrnb2 .ensures ∙ c .before .uqrshrnb .ensures .0)
+returns-6 c = rw (c .before .before .match .keys6) (c .narrow2 .ensures ∙ c .before .narrow .ensures)
 
 returns-7 : tie.Need-returns-7
 returns-7 c = sym (read-past rows (c .before .args .place) _ (none-below-at-least (length rows) (c .before .args .place) (c .match .rest)))
@@ -79,8 +79,8 @@ read-spec =
     luti4c-requires-2
     luti4s-requires
     luti4s-requires-2
-    uqrshrnb-requires
-    uqrshrnb-requires-2
+    narrow-requires
+    narrow-requires-2
     returns
     returns-2
     returns-3

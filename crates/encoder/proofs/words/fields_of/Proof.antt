@@ -1,7 +1,7 @@
 -- `fields_of` meets its contract: in each arm the instruction is known, its fields are in range, and with its fixed bits the sum is its layout's word.
 use lib.Dec.{lit≤}
 use Rattle.encoding.proofs.InRange.{dup-ranges, known-range}
-use Rattle.encoder.proofs.WordLaws.{known-word, pext-asks, luti4c-asks, luti4s-asks, narrow-asks, pext1-sum, pext2-sum, dup-sum, luti4c-sum, luti4s-sum, uqrshrnb-sum}
+use Rattle.encoder.proofs.WordLaws.{known-word, pext-asks, luti4c-asks, luti4s-asks, narrow-asks, pext1-sum, pext2-sum, dup-sum, luti4c-sum, luti4s-sum, narrow-sum}
 use borrow.Author.Needs.{needs}
 use Rattle.encoder.proofs.words.fields_of.Statement.{statement}
 use Rattle.encoder.proofs.words.fields_of.Tie as tie
@@ -58,8 +58,13 @@ luti-requires-2 c κs = luti4s-asks (c .before .before .instruction5 .given .0 .
 enum-known-instruction-6 : tie.Need-enum-known-instruction-6
 enum-known-instruction-6 c = search needs
 
+narrow-number-requires : tie.Need-narrow-number-requires
+narrow-number-requires c κs = search needs
+
 narrow-requires : tie.Need-narrow-requires
-narrow-requires c κs = narrow-asks _ _ _ _ (known-range (c .before .instruction6 .given .1) (c .before .before .before .pre))
+narrow-requires c κs =
+    let g = c .before .before .instruction6 .given in
+    narrow-asks (g .0 .0) (g .0 .1 .0) (g .0 .1 .1 .0) (g .0 .1 .1 .1 .0) _ _ _ _ _ (c .narrow-number .ensures) (known-range (g .1) (c .before .before .before .before .pre))
 
 returns : tie.Need-returns
 returns c = known-word _ (c .before .before .before .instruction .given .1) (pext1-sum (c .before .before .before .instruction .given .0 .0) _ _ _ _ _ (c .before .log-of .ensures) (c .pext .ensures))
@@ -77,7 +82,9 @@ returns-5 : tie.Need-returns-5
 returns-5 c = known-word _ (c .before .before .before .instruction5 .given .1) (luti4s-sum (c .before .before .before .instruction5 .given .0 .0) _ _ _ _ _ (c .before .log-of4 .ensures) (c .luti2 .ensures))
 
 returns-6 : tie.Need-returns-6
-returns-6 c = known-word _ (c .before .before .instruction6 .given .1) (uqrshrnb-sum _ _ _ _ _ (c .narrow .ensures))
+returns-6 c =
+    let g = c .before .before .before .instruction6 .given in
+    known-word _ (g .1) (narrow-sum (g .0 .0) (g .0 .1 .0) (g .0 .1 .1 .0) (g .0 .1 .1 .1 .0) _ _ _ _ _ _ (c .before .narrow-number .ensures) (c .narrow .ensures))
 
 pub fields-of-spec : {M : Type 1} → statement M
 fields-of-spec =
@@ -99,6 +106,7 @@ fields-of-spec =
     log-of-requires-4
     luti-requires-2
     enum-known-instruction-6
+    narrow-number-requires
     narrow-requires
     returns
     returns-2

@@ -1,27 +1,29 @@
 -- `narrow_chunks` meets its contract: after i turns Zd's slot begins with the first i chunks narrowed. The measure is what is left of the count.
 use mathlib.Core.Path.{_≡_, refl, sym, ap, _∙_}
-use mathlib.Core.List.{List}
-use Prim.Native.Nat.{ℕ, _+_, _-_, _*_, _≤_}
+use Prim.Native.Nat.{_+_, _-_, _*_, _≤_}
 use native.Mathlib.Omega.{arith}
 use lib.ListN.{length, take, drop, length-take, length-drop}
-use Rattle.element.specs.Contents.{elem}
-use Rattle.element.specs.Slots.{slot}
-use Rattle.narrow.specs.Narrow.{narrowed}
-use Rattle.narrow.proofs.Chunks.{upTo, begun, again, finished, kept, chunk-length, chunk-made}
+use Rattle.narrowing.specs.Narrowing.{form}
+use Rattle.narrowing.specs.Registers.{element}
+use Rattle.narrow.specs.Private.{elementOf}
+use Rattle.narrow.proofs.Places.{width-le}
+use Rattle.narrow.proofs.Chunks.{upTo, begun, again, finished, kept, chunk-length, chunk-made, lent}
 use borrow.Author.Needs.{needs}
 use Rattle.narrow.proofs.elements.narrow_chunks.Statement.{statement}
 use Rattle.narrow.proofs.elements.narrow_chunks.Tie as tie
 
--- element e of Zn's low n chunks, narrowed
-abbrev element : ℕ → ℕ → ℕ → ℕ → List ℕ → ℕ → ℕ
-element n w shift zn z e = narrowed (4 * w) shift (elem w e (slot 256 (n * 16) zn z))
-
 abbrev Inv-loop : tie.InvT-loop
-Inv-loop z₀ n per w shift zn zd from to i₀ z i =
-    (i ≤ n) × ((length z ≡ length z₀) × (z ≡ upTo (element n w shift zn z₀) w per (256 * zd) i z₀))
+Inv-loop z₀ n per w op u r t shift zn zd a from to i₀ z i =
+    (i ≤ n) × (length z ≡ length z₀) × (z ≡ upTo (elementOf n w op u r t shift zn zd z₀) w per (256 * zd) i z₀)
 
 abbrev μ-loop : tie.MeasureT-loop
-μ-loop z₀ n per w shift zn zd from to i₀ z i = n - i
+μ-loop z₀ n per w op u r t shift zn zd a from to i₀ z i = n - i
+
+mul-bounds-of : tie.Need-mul-bounds-of Inv-loop μ-loop
+mul-bounds-of c = let l = width-le (c .before .pre .bytes) in record { fits = omega arith }
+
+bounds-of-requires : tie.Need-bounds-of-requires Inv-loop μ-loop
+bounds-of-requires c κs = let l = width-le (c .before .pre .bytes) in record { some = c .before .pre .low; most = c .before .pre .high; size = omega arith }
 
 mul-from : tie.Need-mul-from Inv-loop μ-loop
 mul-from c = search needs
@@ -30,16 +32,16 @@ mul-to : tie.Need-mul-to Inv-loop μ-loop
 mul-to c = search needs
 
 loop-holds : tie.Need-loop-holds Inv-loop μ-loop
-loop-holds c = let a = c .before in (omega arith, (refl, begun (element (a .args .n) (a .args .w) (a .args .shift) (a .args .zn) (a .args .z .now)) (a .args .w) (a .args .per) (a .pre .whole) (a .args .z .now) (256 * a .args .zd)))
+loop-holds c = let a = c .before .before in (omega arith, refl, begun (elementOf (a .args .n) (a .args .w) (a .args .op) (a .args .u) (a .args .r) (a .args .t) (a .args .shift) (a .args .zn) (a .args .zd) (a .args .z .now)) (a .args .w) (a .args .per) (a .pre .whole) (a .args .z .now) (256 * a .args .zd))
 
-mul-a : tie.Need-mul-a Inv-loop μ-loop
-mul-a c = search needs
-
-add-a : tie.Need-add-a Inv-loop μ-loop
-add-a c = search needs
+mul-b : tie.Need-mul-b Inv-loop μ-loop
+mul-b c = search needs
 
 add-b : tie.Need-add-b Inv-loop μ-loop
 add-b c = search needs
+
+add-f : tie.Need-add-f Inv-loop μ-loop
+add-f c = search needs
 
 sub-copy : tie.Need-sub-copy Inv-loop μ-loop
 sub-copy c = search needs
@@ -66,29 +68,11 @@ add-e : tie.Need-add-e Inv-loop μ-loop
 add-e c = search needs
 
 -- the copy is Zn's chunk as it was at first
-held : (c : tie.After-copy Inv-loop μ-loop) → c .copy .last .1 .0 ≡ take 16 (drop (256 * c .before .before .before .before .before .before .before .args .zn + c .before .before .before .before .before .loop .i * 16) (c .before .before .before .before .before .before .before .args .z .now))
+held : (c : tie.After-copy Inv-loop μ-loop) → c .copy .last .1 .0 ≡ take 16 (drop (256 * c .before .before .before .before .before .before .before .before .args .zn + c .before .before .before .before .before .loop .i * 16) (c .before .before .before .before .before .before .before .before .args .z .now))
 held c =
-    let a = c .before .before .before .before .before .before .before in
+    let a = c .before .before .before .before .before .before .before .before in
     let l = c .before .before .before .before .before .loop in
-    kept
-    (element (a .args .n) (a .args .w) (a .args .shift) (a .args .zn) (a .args .z .now))
-    (a .args .w)
-    (a .args .per)
-    (a .pre .whole)
-    (a .args .z .now)
-    (a .args .zn)
-    (a .args .zd)
-    (l .i)
-    (l .z)
-    _
-    (c .copy .last .1 .0)
-    (omega arith)
-    (omega arith)
-    (omega arith)
-    (l .inv .1 .0)
-    refl
-    (l .inv .1 .1)
-    (c .copy .ensures .1)
+    kept (elementOf (a .args .n) (a .args .w) (a .args .op) (a .args .u) (a .args .r) (a .args .t) (a .args .shift) (a .args .zn) (a .args .zd) (a .args .z .now)) (a .args .w) (a .args .per) (a .pre .whole) (a .args .z .now) (a .args .zn) (a .args .zd) (l .i) (l .z) _ (c .copy .last .1 .0) (omega arith) (omega arith) (omega arith) (l .inv .1) refl (l .inv .2) (c .copy .ensures .1)
 
 held-length : (c : tie.After-copy Inv-loop μ-loop) → length (c .copy .last .1 .0) ≡ 16
 held-length c = ap length (held c) ∙ simp (length-take, length-drop) (omega arith)
@@ -107,15 +91,14 @@ part-narrow-all-end c = search needs
 
 narrow-all-requires : tie.Need-narrow-all-requires Inv-loop μ-loop
 narrow-all-requires c κs =
-    let a = c .before .before .before .before .before .before .before .before .before .before in
+    let a = c .before .before .before .before .before .before .before .before .before .before .before in
     let l = c .before .before .before .before .before .before .before .before .loop in
     record {
       source = held-length (c .before .before .before) ∙ sym (a .pre .whole);
       target = chunk-length (256 * a .args .zd + l .i * 16) (l .z) (omega arith) ∙ sym (a .pre .whole);
       room = omega arith;
       bytes = a .pre .bytes;
-      low = a .pre .low;
-      high = a .pre .high;
+      word = c .before .before .before .before .before .before .before .before .before .bounds-of .ensures;
     }
 
 add-i : tie.Need-add-i Inv-loop μ-loop
@@ -126,25 +109,17 @@ loop-less c = search needs
 
 loop-again : tie.Need-loop-again Inv-loop μ-loop
 loop-again c =
-    let a = c .before .before .before .before .before .before .before .before .before .before .before .before .before in
+    let a = c .before .before .before .before .before .before .before .before .before .before .before .before .before .before in
     let l = c .before .before .before .before .before .before .before .before .before .before .before .loop in (
       omega arith,
-      (
-        c .before .z2 .given .1 ∙ l .inv .1 .0,
-        again
-            (element (a .args .n) (a .args .w) (a .args .shift) (a .args .zn) (a .args .z .now))
-            (a .args .w)
-            (a .args .per)
-            (a .pre .whole)
-            (a .args .z .now)
-            (256 * a .args .zd)
-            (l .i)
-            (l .z)
-            _
-            (omega arith)
-            (l .inv .1 .1)
-            (chunk-made (narrowed (4 * a .args .w) (a .args .shift)) (a .args .w) (a .args .per) (a .args .n) (l .i) (a .args .zn) (a .args .z .now) _ (a .pre .whole) (omega arith) (omega arith) (held (c .before .before .before .before .before .before)) (c .before .before .narrow-all .ensures)),
-      ),
+      c .before .z2 .given .1 ∙ l .inv .1,
+      again (elementOf (a .args .n) (a .args .w) (a .args .op) (a .args .u) (a .args .r) (a .args .t) (a .args .shift) (a .args .zn) (a .args .zd) (a .args .z .now)) (a .args .w) (a .args .per) (a .pre .whole) (a .args .z .now) (256 * a .args .zd) (l .i) (l .z) _ (omega arith) (l .inv .2)
+          (chunk-made
+          (element (form (a .args .op) (a .args .u)) (a .args .r) (a .args .t) (4 * a .args .w) (a .args .shift))
+          (a .args .w) (a .args .per) (a .args .n) (l .i) (a .args .zn) (a .args .zd) (a .args .z .now) _ _ (a .pre .whole) (omega arith) (omega arith) (omega arith)
+          (held (c .before .before .before .before .before .before))
+          (lent (elementOf (a .args .n) (a .args .w) (a .args .op) (a .args .u) (a .args .r) (a .args .t) (a .args .shift) (a .args .zn) (a .args .zd) (a .args .z .now)) (a .args .w) (a .args .per) (a .pre .whole) (a .args .z .now) (a .args .zd) (l .i) (l .z) (omega arith) (omega arith) (l .inv .2))
+          (c .before .before .narrow-all .ensures)),
     )
 
 same-length : tie.Need-same-length Inv-loop μ-loop
@@ -152,22 +127,9 @@ same-length c = search needs
 
 returns : tie.Need-returns Inv-loop μ-loop
 returns c =
-    let a = c .before .before .before in
+    let a = c .before .before .before .before in
     let l = c .before .loop in
-    finished
-    (element (a .args .n) (a .args .w) (a .args .shift) (a .args .zn) (a .args .z .now))
-    (a .args .w)
-    (a .args .per)
-    (a .pre .whole)
-    (a .args .z .now)
-    (a .args .zd)
-    (l .i)
-    (a .args .n)
-    (l .z)
-    (l .inv .0)
-    (c .loop-test .left)
-    (omega arith)
-    (l .inv .1 .1)
+    finished (elementOf (a .args .n) (a .args .w) (a .args .op) (a .args .u) (a .args .r) (a .args .t) (a .args .shift) (a .args .zn) (a .args .zd) (a .args .z .now)) (a .args .w) (a .args .per) (a .pre .whole) (a .args .z .now) (a .args .zd) (l .i) (a .args .n) (l .z) (l .inv .0) (c .loop-test .left) (omega arith) (l .inv .2)
 
 pub narrow-chunks-spec : {M : Type 1} → statement M
 narrow-chunks-spec =
@@ -175,12 +137,14 @@ narrow-chunks-spec =
     (tie.spec
     Inv-loop
     μ-loop
+    mul-bounds-of
+    bounds-of-requires
     mul-from
     mul-to
     loop-holds
-    mul-a
-    add-a
+    mul-b
     add-b
+    add-f
     sub-copy
     part-copy-start
     part-copy-end

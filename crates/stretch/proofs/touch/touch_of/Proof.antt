@@ -86,11 +86,11 @@ join-requires-5 c κs = search needs
 enum-known-instruction-6 : tie.Need-enum-known-instruction-6
 enum-known-instruction-6 c = search needs
 
-vector-requires-3 : tie.Need-vector-requires-3
-vector-requires-3 c κs = known-as (c .before .instruction6 .given .1) (c .before .before .before .pre) .0 .0
+narrow-sources-requires : tie.Need-narrow-sources-requires
+narrow-sources-requires c κs = let k = known-as (c .before .instruction6 .given .1) (c .before .before .before .pre) in (k .0 .0, k .1 .0)
 
-vector-requires-4 : tie.Need-vector-requires-4
-vector-requires-4 c κs = known-as (c .before .before .instruction6 .given .1) (c .before .before .before .before .pre) .1 .0
+vector-requires-3 : tie.Need-vector-requires-3
+vector-requires-3 c κs = known-as (c .before .before .instruction6 .given .1) (c .before .before .before .before .pre) .1 .0
 
 join-requires-6 : tie.Need-join-requires-6
 join-requires-6 c κs = search needs
@@ -111,7 +111,7 @@ returns-5 : tie.Need-returns-5
 returns-5 c = touch-is (c .before .before .before .before .instruction5 .given .1) (c .join5 .ensures) (next-bit _ _ (c .before .before .vector2 .ensures) table-bit) (c .before .four-vectors2 .ensures)
 
 returns-6 : tie.Need-returns-6
-returns-6 c = touch-is (c .before .before .before .before .instruction6 .given .1) (c .join6 .ensures) (last-bit _ (c .before .before .vector3 .ensures)) (last-bit _ (c .before .vector4 .ensures))
+returns-6 c = touch-is (c .before .before .before .before .instruction6 .given .1) (c .join6 .ensures) (c .before .before .narrow-sources .ensures) (last-bit _ (c .before .vector3 .ensures))
 
 pub touch-of-spec : {M : Type 1} → statement M
 touch-of-spec =
@@ -142,8 +142,8 @@ touch-of-spec =
     four-vectors-requires-2
     join-requires-5
     enum-known-instruction-6
+    narrow-sources-requires
     vector-requires-3
-    vector-requires-4
     join-requires-6
     returns
     returns-2

@@ -1,0 +1,5 @@
+pub mod Differences
+pub mod Curve
+pub mod Stored
+pub mod Placed
+pub mod Board
