@@ -57,8 +57,8 @@ four-known zn a gap h l = (h, omega arith, omega arith, omega arith, omega arith
 
 -- a narrowing word's sources
 narrow-known : (t : Bool) (zn zd : ℕ) → zn < 32 → zd < 32 → AllKnown (narrowReads t zn zd)
-narrow-known true zn zd hn hd = (hn, (hd, tt))
-narrow-known false zn zd hn hd = (hn, tt)
+narrow-known true zn zd hn hd = search (hn, hd)
+narrow-known false zn zd hn hd = search (hn, hd)
 
 pub fine : (i : Instruction) → Fine i
 unfolding puts put

@@ -79,5 +79,4 @@ unsigned-is r s k x =
     ap (low s) (within-pos 0 (2 ^ s - 1) ((x + term r k) / 2 ^ k)) ∙ ap (λ (n : ℕ). n % 2 ^ s) (among-min (2 ^ s - 1) ((x + term r k) / 2 ^ k)) ∙ mod-eq-of-lt l
 
 pub as-document-01 : AsDocument01
-unfolding term
-as-document-01 s k x = unsigned-is true s k x
+as-document-01 r s k x = unsigned-is r s k x

@@ -5,7 +5,7 @@ use Prim.Native.Nat.{ℕ, _+_, _-_, _%_, _/_, _^_, _≤_, _<_, min}
 use lib.IntN.{ℤ, pos}
 use lib.Signed.{_≤ℤ_}
 use Rattle.logic.specs.Every.{Every}
-use Rattle.narrowing.specs.Narrowing.{Saturating, signedToUnsigned, signedToSigned, unsignedToUnsigned, Form, form, signedOf, least, greatest, result, low, stored}
+use Rattle.narrowing.specs.Narrowing.{Saturating, signedToUnsigned, signedToSigned, unsignedToUnsigned, Form, form, signedOf, term, least, greatest, result, low, stored}
 use Rattle.narrowing.specs.Registers.{element}
 use Rattle.narrowing.specs.Points.{narrowPoints, familyPoints}
 
@@ -23,9 +23,9 @@ readBack unsignedToUnsigned s b = pos b
 abbrev pub Held : Type 0
 Held = (f : Saturating) (r : Bool) (s shift : ℕ) (x : ℤ) → 1 ≤ s → readBack f s (low s (result f r s shift x)) ≡ result f r s shift x
 
--- with op, U and R set it is UQRSHRN in document 01's words
+-- op and U set: document 01's words for an unsigned element, with the rounding term that R adds
 abbrev pub AsDocument01 : Type 0
-AsDocument01 = (s shift x : ℕ) → stored (form true true) true s shift (pos x) ≡ min ((x + 2 ^ (shift - 1)) / 2 ^ shift) (2 ^ s - 1)
+AsDocument01 = (r : Bool) (s shift x : ℕ) → stored (form true true) r s shift (pos x) ≡ min ((x + term r shift) / 2 ^ shift) (2 ^ s - 1)
 
 -- a B word leaves the odd element 0
 abbrev pub OddCleared : Type 0
