@@ -1,16 +1,27 @@
 -- Which calls are accepted: those of the three sizes whose other arguments are, each test of the Bool definition read as a fact.
-use mathlib.Core.Path.{_≡_, ap, _∙_}
+use mathlib.Core.Path.{_≡_, refl, ap, _∙_}
 use mathlib.Core.Bool.{Bool, true, false, _&&_, and-true, and-false}
-use Prim.Native.Nat.{ℕ}
+use mathlib.Core.Logic.{inl, inr}
+use Prim.Native.Nat.{ℕ, _/_, _%_}
 use lib.Dec.{eqb, leb, ltb}
 use borrow.Author.Tests.{eqb-true, ltb-true, leb-true}
 use Rattle.setting.specs.Allowed.{lengthAllowed}
+use Rattle.setting.proofs.Lengths.{length-cases}
 use Rattle.element.specs.Files.{vectorFile}
 use Rattle.element.specs.Size.{isResult}
 use Rattle.element.proofs.Tests.{both-yes}
 use Rattle.part.proofs.Lengths.{lengths-of}
 use Rattle.narrowing.specs.Calls.{restReady, narrowReady}
-use Rattle.narrow.specs.Private.{NarrowReady}
+use Rattle.narrow.specs.Private.{Chunks, NarrowReady}
+
+chunks-of : (vl : ℕ) → lengthAllowed vl ≡ true → Chunks (vl / 128 % 32)
+chunks-of =
+    length-cases (λ (vl : ℕ). Chunks (vl / 128 % 32))
+    (inl refl)
+    (inr (inl refl))
+    (inr (inr (inr (inl refl))))
+    (inr (inr (inr (inr refl))))
+    (inr (inr (inl refl)))
 
 module _ (z vl size shift zn zd : ℕ) where
   pub refused : restReady z vl size shift zn zd ≡ false → narrowReady z vl size shift zn zd ≡ false
@@ -32,6 +43,7 @@ module _ (z vl size shift zn zd : ℕ) where
         record {
           slots = eqb-true z vectorFile (f .0);
           lengths = lengths-of vl (f .1);
+          length = chunks-of vl (f .1);
           low = ltb-true 0 shift (n .0);
           high = leb-true shift size (n .1);
           from = ltb-true zn 32 (r .0);

@@ -11,11 +11,11 @@ use Rattle.element.specs.Slots.{slot, setSlot}
 use Rattle.part.specs.Private.{Width}
 use Rattle.narrowing.specs.Narrowing.{form}
 use Rattle.narrowing.specs.Registers.{narrowOf}
-use Rattle.narrow.specs.Private.{ChunksReady, chunksOf, NarrowReady}
+use Rattle.narrow.specs.Private.{ChunksReady, LengthReady, chunksOf, NarrowReady}
 
 module _ {file vl s shift zn zd : ℕ} (ready : NarrowReady file vl s shift zn zd) (per w : ℕ) (whole : per * w ≡ 16) (some : 1 ≤ w) (width : Width w) (size : s ≡ 4 * w) where
-  bytes-are : vl / 128 % 32 * 16 ≡ vl / 8
-  bytes-are = let l = ready .lengths in omega arith
+  bytes-are : vl / 128 % 32 * (per * w) ≡ vl / 8
+  bytes-are = let l = ready .lengths in rw whole (omega arith)
 
   elements-are : vl / 128 % 32 * per ≡ vl / (2 * (4 * w))
   elements-are =
@@ -26,19 +26,22 @@ module _ {file vl s shift zn zd : ℕ} (ready : NarrowReady file vl s shift zn z
       let v : vl ≡ vl / 128 % 32 * per * (w * 8) = omega arith in
       sym (ap (λ (m : ℕ). vl / m) e ∙ div-eq-of-eq-mul-left (omega arith) v)
 
-  pub chunks-ready : ChunksReady file (vl / 128 % 32) per w shift zn zd
+  chunks-ready : ChunksReady file (vl / 128 % 32) per w shift zn zd
   chunks-ready =
       let m = ready .lengths .most in
       record {
         slots = ready .slots;
-        room = omega arith;
-        whole = whole;
+        room = rw whole (omega arith);
+        chunk = rw whole (omega arith);
         bytes = width;
         low = ready .low;
         high = rw size at (ready .high);
         from = ready .from;
         to = ready .to;
       }
+
+  pub length-ready : LengthReady file (vl / 128 % 32) per w shift zn zd
+  length-ready = record { chunks = chunks-ready; length = ready .length }
 
   pub chunks-are : isResult (4 * w) ≡ true
       → (op u r t : Bool) (z o : List ℕ)

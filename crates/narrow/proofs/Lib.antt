@@ -5,4 +5,5 @@ pub mod Widths
 pub mod Places
 pub mod Chunks
 pub mod Files
+pub mod Grouped
 pub mod Accepted

@@ -77,7 +77,11 @@ pub placed-even : (t : Bool) (s v y : ℕ) → t ≡ false → v ≡ placed t s 
 unfolding placed
 placed-even t s v y e = rw e
 
--- ---- one turn of the loop
+-- ---- one turn of the loops
+
+-- element e of what is made of s and o
+abbrev pub elementsIn : List ℕ → List ℕ → ℕ → Bool → Bool → Bool → Bool → ℕ → ℕ → ℕ
+elementsIn s o w op u r t shift e = element (form op u) r t (4 * w) shift (elem w e s) (elem w e o)
 
 -- what is read of an element fits its bits
 pub element-below : (i n w : ℕ) (s : List ℕ) {m x : ℕ} → i < n → length s ≡ n * w → Got (take (i * w + w - i * w) (drop (i * w) s)) m x → x < 2 ^ (8 * w)

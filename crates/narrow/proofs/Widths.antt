@@ -1,13 +1,13 @@
 -- Signed integers of any width: an element's signed reading, its bounds carried to its type, and its result, each the number that its bits are.
-use mathlib.Core.Path.{_≡_, refl, sym, ap, _∙_}
+use mathlib.Core.Path.{_≡_, refl, sym, ap, _∙_, subst}
 use mathlib.Core.Bool.{Bool, true, false}
-use Prim.Native.Nat.{ℕ, suc, _+_, _-_, _*_, _%_, _^_, _≤_, _<_}
+use Prim.Native.Nat.{ℕ, zero, suc, _+_, _-_, _*_, _%_, _^_, _≤_, _<_}
 use native.Mathlib.Nat.{mod-eq-of-lt, add-mod-right}
 use native.Mathlib.Omega.{arith}
-use lib.Dec.{T, leb→le}
+use lib.Dec.{T, leb→le, le→leb, ltb→lt}
 use lib.Pow.{pow-pos, pow-mono, pow-add}
-use lib.IntN.{ℤ, pos, negsuc, natAbs, subℕ, _+ℤ_, _-ℤ_}
-use lib.Signed.{ltZ, mag, mag-shr, shrZ, nonNeg, _≤ℤ_}
+use lib.IntN.{ℤ, pos, negsuc, negℤ, natAbs, subℕ, _+ℤ_, _-ℤ_}
+use lib.Signed.{ltZ, ltZ-yes, mag, mag-shr, shrZ, nonNeg, clashℤ, _≤ℤ_, <ℤ-≤ℤ-trans}
 use mir.Syntax.{Width, w64}
 use mir.Val.{SFits, Fits, bits, hbits, toZ, ofZ}
 use mir.ValLaws.{toZ-ofZ, toZ-pos, pow-bits, bits-suc}
@@ -16,7 +16,7 @@ use Rattle.narrowing.specs.Narrowing.{Saturating, signedToUnsigned, signedToSig
 use Rattle.narrowing.specs.Points.{narrowed}
 use Rattle.narrowing.proofs.Differences.{sub-ge, as-neg, sub-same, take-sub, pos-is}
 use Rattle.narrowing.proofs.Stored.{in-range, neg-mag}
-use Rattle.narrow.specs.Private.{below, SignedReady, ShiftReady}
+use Rattle.narrow.specs.Private.{below, above, SignedReady, ShiftReady}
 use Rattle.narrow.proofs.Clamp.{signedForm, clamp-first, halved, mag-twice}
 use Rattle.narrow.proofs.Computed as computed
 
@@ -59,19 +59,42 @@ module _ (w : Width) (x : ℕ) where
 
 -- ---- the clamp
 
+refuted : (b : Bool) → (T b → ⊥) → b ≡ false
+refuted true h = absurd (h tt)
+refuted false h = refl
+
+passed : {b : Bool} → b ≡ true → T b
+passed e = subst T (sym e) tt
+
+not-both : (a b : ℤ) → T (ltZ a b) → T (ltZ b a) → ⊥
+not-both (pos a) (pos b) h k = omega (arith, ltb→lt a b h, ltb→lt b a k)
+not-both (pos a) (negsuc b) h k = h
+not-both (negsuc a) (pos b) h k = k
+not-both (negsuc a) (negsuc b) h k = omega (arith, ltb→lt b a h, ltb→lt a b k)
+
+not-below : (x lo hi : ℤ) → lo ≤ℤ hi → ltZ hi x ≡ true → ltZ x lo ≡ false
+not-below x lo hi o e = refuted (ltZ x lo) (λ t. not-both x hi (<ℤ-≤ℤ-trans (ltZ-yes {a = x} {b = lo} t) o .lt) (passed e))
+
 module _ (w : Width) where
   less : (x y : ℤ) → SFits w x → SFits w y → ltZ (toZ w (ofZ w x)) (toZ w (ofZ w y)) ≡ ltZ x y
   less x y f g = ap (λ (z : ℤ). ltZ z (toZ w (ofZ w y))) (toZ-ofZ w x f) ∙ ap (λ (z : ℤ). ltZ x z) (toZ-ofZ w y g)
 
-  module _ (x lo hi : ℤ) (f : SFits w x) (fl : SFits w lo) (fh : SFits w hi) where
-    pub is-below : ltZ (toZ w (ofZ w x)) (toZ w (ofZ w lo)) ≡ true → toZ w (ofZ w lo) ≡ within lo hi x
-    is-below e = toZ-ofZ w lo fl ∙ rw (sym (less x lo f fl) ∙ e)
+  -- v is the lesser of hi and x, as the code takes it
+  module _ (x lo hi : ℤ) (f : SFits w x) (fl : SFits w lo) (fh : SFits w hi) (o : lo ≤ℤ hi) (v : ℕ) where
+    tested : {y : ℤ} {b : Bool} → SFits w y → v ≡ ofZ w y → ltZ (toZ w v) (toZ w (ofZ w lo)) ≡ b → ltZ y lo ≡ b
+    tested {y} g e t = sym (less y lo g fl) ∙ ap (λ (n : ℕ). ltZ (toZ w n) (toZ w (ofZ w lo))) (sym e) ∙ t
 
-    pub is-above : ltZ (toZ w (ofZ w x)) (toZ w (ofZ w lo)) ≡ false → ltZ (toZ w (ofZ w hi)) (toZ w (ofZ w x)) ≡ true → toZ w (ofZ w hi) ≡ within lo hi x
-    is-above e d = toZ-ofZ w hi fh ∙ rw (sym (less x lo f fl) ∙ e, sym (less hi x fh f) ∙ d)
+    pub low-of-hi : v ≡ ofZ w hi → ltZ (toZ w v) (toZ w (ofZ w lo)) ≡ true → toZ w (ofZ w lo) ≡ within lo hi x
+    low-of-hi e t = clashℤ (ltZ-yes {a = hi} {b = lo} (passed (tested fh e t))) o
 
-    pub is-in : ltZ (toZ w (ofZ w x)) (toZ w (ofZ w lo)) ≡ false → ltZ (toZ w (ofZ w hi)) (toZ w (ofZ w x)) ≡ false → toZ w (ofZ w x) ≡ within lo hi x
-    is-in e d = toZ-ofZ w x f ∙ rw (sym (less x lo f fl) ∙ e, sym (less hi x fh f) ∙ d)
+    pub low-of-x : v ≡ ofZ w x → ltZ (toZ w v) (toZ w (ofZ w lo)) ≡ true → toZ w (ofZ w lo) ≡ within lo hi x
+    low-of-x e t = toZ-ofZ w lo fl ∙ rw (tested f e t)
+
+    pub is-hi : v ≡ ofZ w hi → ltZ (toZ w (ofZ w hi)) (toZ w (ofZ w x)) ≡ true → toZ w v ≡ within lo hi x
+    is-hi e d = let a = sym (less hi x fh f) ∙ d in ap (toZ w) e ∙ toZ-ofZ w hi fh ∙ rw (not-below x lo hi o a, a)
+
+    pub is-x : v ≡ ofZ w x → ltZ (toZ w (ofZ w hi)) (toZ w (ofZ w x)) ≡ false → ltZ (toZ w v) (toZ w (ofZ w lo)) ≡ false → toZ w v ≡ within lo hi x
+    is-x e d t = ap (toZ w) e ∙ toZ-ofZ w x f ∙ rw (tested f e t, sym (less hi x fh f) ∙ d)
 
 -- ---- what the code computes of the clamped element y, at a width w of more than s + 1 bits
 
@@ -151,6 +174,10 @@ small signedToSigned s (negsuc n) a b = let h = neg-mag (2 ^ (s - 1)) n a in let
 small unsignedToUnsigned s (pos n) a b = let h = leb→le n (2 ^ s - 1) (b .le) in omega (arith, pow-pos s)
 small unsignedToUnsigned s (negsuc n) a b = absurd (a .le)
 
+neg-le-pos : (a b : ℕ) → negℤ (pos a) ≤ℤ pos b
+neg-le-pos zero b = record { le = le→leb 0 b (omega arith) }
+neg-le-pos (suc a) b = record { le = tt }
+
 narrowed-is : (op r : Bool) (s k x : ℕ) → narrowed (form op false) r s k x ≡ low s (result (signedForm op) r s k (signedOf (2 * s) x))
 unfolding form value stored
 narrowed-is false r s k x = refl
@@ -183,6 +210,9 @@ module _ (w : Width) (s : ℕ) (some : 3 ≤ s) (wide : hbits w ≡ 2 * s - 1) {
 
   pub hi-carried : toZ w (ofZ w (toZ w64 (ofZ w64 hi))) ≡ hi
   hi-carried = toZ-ofZ w _ hi-fits ∙ hi-is
+
+  pub lo-le-hi : {lo′ hi′ : ℤ} → lo′ ≡ lo → hi′ ≡ hi → lo′ ≤ℤ hi′
+  lo-le-hi el eh = record { le = rw (el, eh, p .bounds .least, p .bounds .greatest) (neg-le-pos (below op r s k) (above op r s k) .le) }
 
   module _ {lo′ hi′ v y : ℤ} (el : lo′ ≡ lo) (eh : hi′ ≡ hi) (fv : SFits w v) (ev : v ≡ signedOf (2 * s) x) (f : SFits w y) (e : y ≡ within lo′ hi′ (toZ w (ofZ w v))) where
     law : result (signedForm op) r s k (signedOf (2 * s) x) ≡ shifted r k y

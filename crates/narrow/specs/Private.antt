@@ -2,7 +2,8 @@
 use mathlib.Core.Path.{_≡_}
 use mathlib.Core.Bool.{Bool, true, false}
 use mathlib.Core.List.{List}
-use Prim.Native.Nat.{ℕ, _+_, _-_, _*_, _^_, _≤_, _<_, min}
+use mathlib.Core.Logic.{_⊎_}
+use Prim.Native.Nat.{ℕ, _+_, _-_, _*_, _/_, _%_, _^_, _≤_, _<_, min}
 use lib.IntN.{ℤ, pos, negℤ}
 use lib.Signed.{mag}
 use Rattle.part.specs.Private.{Width, Lengths}
@@ -86,29 +87,53 @@ pub record EachReady (from to n w : ℕ) (op u r : Bool) (shift : ℕ) (lo hi : 
   pub bytes : Width w
   pub word : Prepared op u r (4 * w) shift lo hi top h
 
--- n chunks of 16 bytes, `per` elements of w bytes in each
+-- n chunks, `per` elements of w bytes in each
+pub record PartsReady (from to n per w : ℕ) (op u r : Bool) (shift : ℕ) (lo hi : ℤ) (top h : ℕ) : Type 0 where
+  pub source : from ≡ n * (per * w)
+  pub target : to ≡ n * (per * w)
+  pub room : n * (per * w) ≤ 256
+  pub chunk : per * w ≤ 256
+  pub bytes : Width w
+  pub word : Prepared op u r (4 * w) shift lo hi top h
+
+-- the numbers of chunks of 16 bytes that a vector length has
+abbrev pub Chunks : ℕ → Type 0
+Chunks n = (n ≡ 1) ⊎ ((n ≡ 2) ⊎ ((n ≡ 16) ⊎ ((n ≡ 4) ⊎ (n ≡ 8))))
+
+-- so in the slots of a file
 pub record ChunksReady (file n per w shift zn zd : ℕ) : Type 0 where
   pub slots : file ≡ vectorFile
-  pub room : n ≤ 16
-  pub whole : per * w ≡ 16
+  pub room : n * (per * w) ≤ 256
+  pub chunk : per * w ≤ 256
   pub bytes : Width w
   pub low : 1 ≤ shift
   pub high : shift ≤ 4 * w
   pub from : zn < 32
   pub to : zd < 32
 
--- element e of Zn's low n chunks, and of Zd's, narrowed
-abbrev pub elementOf : ℕ → ℕ → Bool → Bool → Bool → Bool → ℕ → ℕ → ℕ → List ℕ → ℕ → ℕ
-elementOf n w op u r t shift zn zd z e = element (form op u) r t (4 * w) shift (elem w e (slot 256 (n * 16) zn z)) (elem w e (slot 256 (n * 16) zd z))
+-- so where n is the number of chunks at a middle length
+pub record MiddleReady (file n per w shift zn zd : ℕ) : Type 0 where
+  pub chunks : ChunksReady file n per w shift zn zd
+  pub middle : (n ≡ 4) ⊎ (n ≡ 8)
 
--- the file after them
+-- so where n is the number of chunks at a vector length
+pub record LengthReady (file n per w shift zn zd : ℕ) : Type 0 where
+  pub chunks : ChunksReady file n per w shift zn zd
+  pub length : Chunks n
+
+-- element e of Zn's low m bytes, and of Zd's, narrowed
+abbrev pub elementOf : ℕ → ℕ → Bool → Bool → Bool → Bool → ℕ → ℕ → ℕ → List ℕ → ℕ → ℕ
+elementOf m w op u r t shift zn zd z e = element (form op u) r t (4 * w) shift (elem w e (slot 256 m zn z)) (elem w e (slot 256 m zd z))
+
+-- the file after its chunks
 abbrev pub chunksOf : ℕ → ℕ → ℕ → Bool → Bool → Bool → Bool → ℕ → ℕ → ℕ → List ℕ → List ℕ
-chunksOf n per w op u r t shift zn zd z = setSlot 256 (n * 16) zd (fill (elementOf n w op u r t shift zn zd z) w (n * per)) z
+chunksOf n per w op u r t shift zn zd z = setSlot 256 (n * (per * w)) zd (fill (elementOf (n * (per * w)) w op u r t shift zn zd z) w (n * per)) z
 
 -- a word on the file, but for the size
 pub record NarrowReady (file vl s shift zn zd : ℕ) : Type 0 where
   pub slots : file ≡ vectorFile
   pub lengths : Lengths vl
+  pub length : Chunks (vl / 128 % 32)
   pub low : 1 ≤ shift
   pub high : shift ≤ s
   pub from : zn < 32

@@ -1,6 +1,8 @@
-// The sixteen words at each size, by their class. Each call of the loop has literals, so that the compiler makes a loop for each.
-use crate::elements::narrow_chunks;
+// The sixteen words at each size, by their class. Each call of the loop has literals, so that the compiler makes a loop for each. At
+// VL 2048 the chunks are longer and their number is a literal too, for which it makes straight code; to 8 bits, and at a shorter
+// length, the elements are one chunk: it would take chunks of 16 bytes together, which is slower by far.
 use crate::signed_words;
+use crate::unsigned_words;
 ghost use mathlib.Core.Path.{_≡_};
 ghost use lib.ListN.{length};
 ghost use Rattle.narrow.specs.Private.{ChunksReady, chunksOf};
@@ -22,15 +24,9 @@ pub(crate) fn narrow_any8(
 {
     if u {
         if op {
-            if t {
-                return narrow_chunks(z, n, 8, 2, true, true, r, true, shift, zn, zd);
-            }
-            return narrow_chunks(z, n, 8, 2, true, true, r, false, shift, zn, zd);
+            return unsigned_words::unsigned_to_unsigned8(z, n, r, t, shift, zn, zd);
         }
-        if t {
-            return narrow_chunks(z, n, 8, 2, false, true, r, true, shift, zn, zd);
-        }
-        return narrow_chunks(z, n, 8, 2, false, true, r, false, shift, zn, zd);
+        return unsigned_words::unsigned_to_low8(z, n, r, t, shift, zn, zd);
     }
     if op {
         return signed_words::signed_to_signed8(z, n, r, t, shift, zn, zd);
@@ -55,15 +51,9 @@ pub(crate) fn narrow_any16(
 {
     if u {
         if op {
-            if t {
-                return narrow_chunks(z, n, 4, 4, true, true, r, true, shift, zn, zd);
-            }
-            return narrow_chunks(z, n, 4, 4, true, true, r, false, shift, zn, zd);
+            return unsigned_words::unsigned_to_unsigned16(z, n, r, t, shift, zn, zd);
         }
-        if t {
-            return narrow_chunks(z, n, 4, 4, false, true, r, true, shift, zn, zd);
-        }
-        return narrow_chunks(z, n, 4, 4, false, true, r, false, shift, zn, zd);
+        return unsigned_words::unsigned_to_low16(z, n, r, t, shift, zn, zd);
     }
     if op {
         return signed_words::signed_to_signed16(z, n, r, t, shift, zn, zd);
@@ -88,15 +78,9 @@ pub(crate) fn narrow_any32(
 {
     if u {
         if op {
-            if t {
-                return narrow_chunks(z, n, 2, 8, true, true, r, true, shift, zn, zd);
-            }
-            return narrow_chunks(z, n, 2, 8, true, true, r, false, shift, zn, zd);
+            return unsigned_words::unsigned_to_unsigned32(z, n, r, t, shift, zn, zd);
         }
-        if t {
-            return narrow_chunks(z, n, 2, 8, false, true, r, true, shift, zn, zd);
-        }
-        return narrow_chunks(z, n, 2, 8, false, true, r, false, shift, zn, zd);
+        return unsigned_words::unsigned_to_low32(z, n, r, t, shift, zn, zd);
     }
     if op {
         return signed_words::signed_to_signed32(z, n, r, t, shift, zn, zd);

@@ -1,4 +1,4 @@
-// The elements of a register, 16 bytes of them at a time.
+// The elements of a register, a chunk of them at a time.
 use crate::bounds;
 use crate::bounds::Bounds;
 use crate::one;
@@ -8,7 +8,7 @@ ghost use lib.ListN.{length};
 ghost use Rattle.element.specs.Contents.{elem, fill};
 ghost use Rattle.narrowing.specs.Narrowing.{form};
 ghost use Rattle.narrowing.specs.Registers.{element};
-ghost use Rattle.narrow.specs.Private.{EachReady, ChunksReady, chunksOf};
+ghost use Rattle.narrow.specs.Private.{EachReady, PartsReady, ChunksReady, chunksOf};
 
 // Each of the n elements of s, narrowed, over those of o.
 fn narrow_all(
@@ -39,8 +39,34 @@ fn narrow_all(
     }
 }
 
-// The low n chunks of Zn into Zd, `per` elements of w bytes in each. Zn may be Zd: were Zd's slot lent as a whole, Zn would have to be copied as a
-// whole before, which takes longer than the word. So a chunk of Zn is copied, and then the chunk of Zd is lent.
+// Each of the n chunks of s, narrowed, over that of o, `per` elements of w bytes in each.
+fn narrow_parts(
+    s: &[u8],
+    o: &mut [u8],
+    n: usize,
+    per: usize,
+    w: usize,
+    op: bool,
+    u: bool,
+    r: bool,
+    t: bool,
+    shift: u32,
+    a: Bounds,
+)
+    requires { ⌜ PartsReady (length (now s)) (length (now o)) n per w op u r shift (a .lo) (a .hi) (a .top) (a .h) ⌝ }
+    ensures { λ _. ⌜ now (o .exit) ≡ fill (λ e. element (form op u) r t (4 * w) shift (elem w e (now (s .entry))) (elem w e (now (o .entry)))) w (n * per) ⌝ }
+{
+    let c = per * w;
+    let mut i: usize = 0;
+    while i < n {
+        let b = i * c;
+        let e = b + c;
+        narrow_all(&s[b..e], &mut o[b..e], per, w, op, u, r, t, shift, a);
+        i += 1;
+    }
+}
+
+// The low n chunks of Zn into Zd. Zn may be Zd: its bytes are copied first, and then Zd's slot is lent once, of which the chunks are parts.
 pub(crate) fn narrow_chunks(
     z: &mut [u8],
     n: usize,
@@ -58,17 +84,12 @@ pub(crate) fn narrow_chunks(
     ensures { λ _. ⌜ now (z .exit) ≡ chunksOf n per w op u r t shift zn zd (now (z .entry)) ⌝ }
 {
     let a = bounds::bounds_of(4 * (w as u64), op, u, r, shift as u64);
+    let m = n * (per * w);
     let from = 256 * zn;
+    let last = from + m;
+    let mut s = [0u8; 256];
+    bytes::copy(&z[from..last], &mut s);
     let to = 256 * zd;
-    let mut i: usize = 0;
-    while i < n {
-        let b = from + i * 16;
-        let f = b + 16;
-        let mut s = [0u8; 16];
-        bytes::copy(&z[b..f], &mut s);
-        let d = to + i * 16;
-        let e = d + 16;
-        narrow_all(&s, &mut z[d..e], per, w, op, u, r, t, shift, a);
-        i += 1;
-    }
+    let end = to + m;
+    narrow_parts(&s[..m], &mut z[to..end], n, per, w, op, u, r, t, shift, a);
 }

@@ -2,11 +2,13 @@
 mod bounds;
 mod classes;
 mod elements;
+mod middle;
 mod one;
 mod signed;
 mod signed_words;
 mod sizes;
 mod unsigned;
+mod unsigned_words;
 
 ghost use mathlib.Core.Path.{_≡_};
 ghost use lib.ListN.{length};

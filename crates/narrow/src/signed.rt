@@ -1,8 +1,10 @@
 // A signed element at each width, in the narrowest arithmetic: clamped to the word's bounds, rounded, shifted and stored.
-// A rounded one is halved in the end, so that no sum passes the type.
+// A rounded one is halved in the end, so that no sum passes the type. The lesser is taken first: the processor has the lesser and the
+// greater of two, and the compiler sees them so.
 use crate::bounds::Bounds;
 ghost use mathlib.Core.Path.{_≡_};
 ghost use mathlib.Core.Bool.{false};
+ghost use lib.Signed.{_≤ℤ_};
 ghost use Rattle.narrowing.specs.Narrowing.{form, signedOf, shifted, within};
 ghost use Rattle.narrowing.specs.Points.{narrowed};
 ghost use Rattle.narrow.specs.Private.{SignedReady, ShiftReady};
@@ -17,15 +19,14 @@ fn to_signed16(x: u16) -> i16
 }
 
 fn within16(x: i16, lo: i16, hi: i16) -> i16
+    requires { ⌜ lo ≤ℤ hi ⌝ }
     ensures { λ y. ⌜ y ≡ within lo hi x ⌝ }
 {
-    if x < lo {
+    let y = if hi < x { hi } else { x };
+    if y < lo {
         return lo;
     }
-    if hi < x {
-        return hi;
-    }
-    x
+    y
 }
 
 fn shifted16(y: i16, r: bool, shift: u32) -> i16
@@ -59,15 +60,14 @@ fn to_signed32(x: u32) -> i32
 }
 
 fn within32(x: i32, lo: i32, hi: i32) -> i32
+    requires { ⌜ lo ≤ℤ hi ⌝ }
     ensures { λ y. ⌜ y ≡ within lo hi x ⌝ }
 {
-    if x < lo {
+    let y = if hi < x { hi } else { x };
+    if y < lo {
         return lo;
     }
-    if hi < x {
-        return hi;
-    }
-    x
+    y
 }
 
 fn shifted32(y: i32, r: bool, shift: u32) -> i32
@@ -101,15 +101,14 @@ fn to_signed64(x: u64) -> i64
 }
 
 fn within64(x: i64, lo: i64, hi: i64) -> i64
+    requires { ⌜ lo ≤ℤ hi ⌝ }
     ensures { λ y. ⌜ y ≡ within lo hi x ⌝ }
 {
-    if x < lo {
+    let y = if hi < x { hi } else { x };
+    if y < lo {
         return lo;
     }
-    if hi < x {
-        return hi;
-    }
-    x
+    y
 }
 
 fn shifted64(y: i64, r: bool, shift: u32) -> i64

@@ -1,5 +1,5 @@
 // A signed element's words at each size. Each call of the loop has literals, so that the compiler makes a loop for each: the
-// width, the four bits, and the number of chunks at VL 2048, for which it makes straight code.
+// width, the four bits, and the number of chunks at VL 2048 (src/classes.rt says why).
 use crate::elements::narrow_chunks;
 ghost use mathlib.Core.Path.{_≡_};
 ghost use lib.ListN.{length};
@@ -22,25 +22,25 @@ pub(crate) fn signed_to_signed8(
     if r {
         if t {
             if n == 16 {
-                return narrow_chunks(z, 16, 8, 2, true, false, true, true, shift, zn, zd);
+                return narrow_chunks(z, 2, 64, 2, true, false, true, true, shift, zn, zd);
             }
-            return narrow_chunks(z, n, 8, 2, true, false, true, true, shift, zn, zd);
+            return narrow_chunks(z, 1, 8 * n, 2, true, false, true, true, shift, zn, zd);
         }
         if n == 16 {
-            return narrow_chunks(z, 16, 8, 2, true, false, true, false, shift, zn, zd);
+            return narrow_chunks(z, 2, 64, 2, true, false, true, false, shift, zn, zd);
         }
-        return narrow_chunks(z, n, 8, 2, true, false, true, false, shift, zn, zd);
+        return narrow_chunks(z, 1, 8 * n, 2, true, false, true, false, shift, zn, zd);
     }
     if t {
         if n == 16 {
-            return narrow_chunks(z, 16, 8, 2, true, false, false, true, shift, zn, zd);
+            return narrow_chunks(z, 2, 64, 2, true, false, false, true, shift, zn, zd);
         }
-        return narrow_chunks(z, n, 8, 2, true, false, false, true, shift, zn, zd);
+        return narrow_chunks(z, 1, 8 * n, 2, true, false, false, true, shift, zn, zd);
     }
     if n == 16 {
-        return narrow_chunks(z, 16, 8, 2, true, false, false, false, shift, zn, zd);
+        return narrow_chunks(z, 2, 64, 2, true, false, false, false, shift, zn, zd);
     }
-    narrow_chunks(z, n, 8, 2, true, false, false, false, shift, zn, zd);
+    narrow_chunks(z, 1, 8 * n, 2, true, false, false, false, shift, zn, zd);
 }
 
 // SQSHRUN and SQRSHRUN, to 8 bits.
@@ -59,25 +59,25 @@ pub(crate) fn signed_to_unsigned8(
     if r {
         if t {
             if n == 16 {
-                return narrow_chunks(z, 16, 8, 2, false, false, true, true, shift, zn, zd);
+                return narrow_chunks(z, 2, 64, 2, false, false, true, true, shift, zn, zd);
             }
-            return narrow_chunks(z, n, 8, 2, false, false, true, true, shift, zn, zd);
+            return narrow_chunks(z, 1, 8 * n, 2, false, false, true, true, shift, zn, zd);
         }
         if n == 16 {
-            return narrow_chunks(z, 16, 8, 2, false, false, true, false, shift, zn, zd);
+            return narrow_chunks(z, 2, 64, 2, false, false, true, false, shift, zn, zd);
         }
-        return narrow_chunks(z, n, 8, 2, false, false, true, false, shift, zn, zd);
+        return narrow_chunks(z, 1, 8 * n, 2, false, false, true, false, shift, zn, zd);
     }
     if t {
         if n == 16 {
-            return narrow_chunks(z, 16, 8, 2, false, false, false, true, shift, zn, zd);
+            return narrow_chunks(z, 2, 64, 2, false, false, false, true, shift, zn, zd);
         }
-        return narrow_chunks(z, n, 8, 2, false, false, false, true, shift, zn, zd);
+        return narrow_chunks(z, 1, 8 * n, 2, false, false, false, true, shift, zn, zd);
     }
     if n == 16 {
-        return narrow_chunks(z, 16, 8, 2, false, false, false, false, shift, zn, zd);
+        return narrow_chunks(z, 2, 64, 2, false, false, false, false, shift, zn, zd);
     }
-    narrow_chunks(z, n, 8, 2, false, false, false, false, shift, zn, zd);
+    narrow_chunks(z, 1, 8 * n, 2, false, false, false, false, shift, zn, zd);
 }
 
 // SQSHRN and SQRSHRN, to 16 bits.
@@ -96,23 +96,23 @@ pub(crate) fn signed_to_signed16(
     if r {
         if t {
             if n == 16 {
-                return narrow_chunks(z, 16, 4, 4, true, false, true, true, shift, zn, zd);
+                return narrow_chunks(z, 2, 32, 4, true, false, true, true, shift, zn, zd);
             }
             return narrow_chunks(z, n, 4, 4, true, false, true, true, shift, zn, zd);
         }
         if n == 16 {
-            return narrow_chunks(z, 16, 4, 4, true, false, true, false, shift, zn, zd);
+            return narrow_chunks(z, 2, 32, 4, true, false, true, false, shift, zn, zd);
         }
         return narrow_chunks(z, n, 4, 4, true, false, true, false, shift, zn, zd);
     }
     if t {
         if n == 16 {
-            return narrow_chunks(z, 16, 4, 4, true, false, false, true, shift, zn, zd);
+            return narrow_chunks(z, 2, 32, 4, true, false, false, true, shift, zn, zd);
         }
         return narrow_chunks(z, n, 4, 4, true, false, false, true, shift, zn, zd);
     }
     if n == 16 {
-        return narrow_chunks(z, 16, 4, 4, true, false, false, false, shift, zn, zd);
+        return narrow_chunks(z, 2, 32, 4, true, false, false, false, shift, zn, zd);
     }
     narrow_chunks(z, n, 4, 4, true, false, false, false, shift, zn, zd);
 }
@@ -133,23 +133,23 @@ pub(crate) fn signed_to_unsigned16(
     if r {
         if t {
             if n == 16 {
-                return narrow_chunks(z, 16, 4, 4, false, false, true, true, shift, zn, zd);
+                return narrow_chunks(z, 2, 32, 4, false, false, true, true, shift, zn, zd);
             }
             return narrow_chunks(z, n, 4, 4, false, false, true, true, shift, zn, zd);
         }
         if n == 16 {
-            return narrow_chunks(z, 16, 4, 4, false, false, true, false, shift, zn, zd);
+            return narrow_chunks(z, 2, 32, 4, false, false, true, false, shift, zn, zd);
         }
         return narrow_chunks(z, n, 4, 4, false, false, true, false, shift, zn, zd);
     }
     if t {
         if n == 16 {
-            return narrow_chunks(z, 16, 4, 4, false, false, false, true, shift, zn, zd);
+            return narrow_chunks(z, 2, 32, 4, false, false, false, true, shift, zn, zd);
         }
         return narrow_chunks(z, n, 4, 4, false, false, false, true, shift, zn, zd);
     }
     if n == 16 {
-        return narrow_chunks(z, 16, 4, 4, false, false, false, false, shift, zn, zd);
+        return narrow_chunks(z, 2, 32, 4, false, false, false, false, shift, zn, zd);
     }
     narrow_chunks(z, n, 4, 4, false, false, false, false, shift, zn, zd);
 }
@@ -170,23 +170,23 @@ pub(crate) fn signed_to_signed32(
     if r {
         if t {
             if n == 16 {
-                return narrow_chunks(z, 16, 2, 8, true, false, true, true, shift, zn, zd);
+                return narrow_chunks(z, 2, 16, 8, true, false, true, true, shift, zn, zd);
             }
             return narrow_chunks(z, n, 2, 8, true, false, true, true, shift, zn, zd);
         }
         if n == 16 {
-            return narrow_chunks(z, 16, 2, 8, true, false, true, false, shift, zn, zd);
+            return narrow_chunks(z, 2, 16, 8, true, false, true, false, shift, zn, zd);
         }
         return narrow_chunks(z, n, 2, 8, true, false, true, false, shift, zn, zd);
     }
     if t {
         if n == 16 {
-            return narrow_chunks(z, 16, 2, 8, true, false, false, true, shift, zn, zd);
+            return narrow_chunks(z, 2, 16, 8, true, false, false, true, shift, zn, zd);
         }
         return narrow_chunks(z, n, 2, 8, true, false, false, true, shift, zn, zd);
     }
     if n == 16 {
-        return narrow_chunks(z, 16, 2, 8, true, false, false, false, shift, zn, zd);
+        return narrow_chunks(z, 2, 16, 8, true, false, false, false, shift, zn, zd);
     }
     narrow_chunks(z, n, 2, 8, true, false, false, false, shift, zn, zd);
 }
@@ -207,23 +207,23 @@ pub(crate) fn signed_to_unsigned32(
     if r {
         if t {
             if n == 16 {
-                return narrow_chunks(z, 16, 2, 8, false, false, true, true, shift, zn, zd);
+                return narrow_chunks(z, 2, 16, 8, false, false, true, true, shift, zn, zd);
             }
             return narrow_chunks(z, n, 2, 8, false, false, true, true, shift, zn, zd);
         }
         if n == 16 {
-            return narrow_chunks(z, 16, 2, 8, false, false, true, false, shift, zn, zd);
+            return narrow_chunks(z, 2, 16, 8, false, false, true, false, shift, zn, zd);
         }
         return narrow_chunks(z, n, 2, 8, false, false, true, false, shift, zn, zd);
     }
     if t {
         if n == 16 {
-            return narrow_chunks(z, 16, 2, 8, false, false, false, true, shift, zn, zd);
+            return narrow_chunks(z, 2, 16, 8, false, false, false, true, shift, zn, zd);
         }
         return narrow_chunks(z, n, 2, 8, false, false, false, true, shift, zn, zd);
     }
     if n == 16 {
-        return narrow_chunks(z, 16, 2, 8, false, false, false, false, shift, zn, zd);
+        return narrow_chunks(z, 2, 16, 8, false, false, false, false, shift, zn, zd);
     }
     narrow_chunks(z, n, 2, 8, false, false, false, false, shift, zn, zd);
 }

@@ -1,8 +1,9 @@
-// The words at each size. UQSHRNB and UQRSHRNB have their loops here, with the number of chunks at VL 128 and 2048 a literal, for
-// which the compiler makes straight code. It takes them into the run's loop, and leaves the others, which are called from three places,
-// in functions: all sixteen in the run's loop would slow down the words that do not narrow (docs/DECISIONS.md).
+// The words at each size. UQSHRNB and UQRSHRNB have their loops here, with the number of chunks at VL 128, 256 and 2048 a literal, for
+// which the compiler makes straight code. It takes them into the run's loop, and leaves the others in functions: all sixteen, and
+// every length, in the run's loop would slow down the words that do not narrow (docs/DECISIONS.md).
 use crate::classes;
 use crate::elements::narrow_chunks;
+use crate::middle;
 ghost use mathlib.Core.Path.{_≡_};
 ghost use lib.ListN.{length};
 ghost use Rattle.logic.specs.Pick.{pick};
@@ -11,7 +12,7 @@ ghost use Rattle.element.specs.Slots.{slot, setSlot};
 ghost use Rattle.narrowing.specs.Narrowing.{form};
 ghost use Rattle.narrowing.specs.Registers.{narrowOf};
 ghost use Prim.Native.Nat.{_/_};
-ghost use Rattle.narrow.specs.Private.{ChunksReady, chunksOf, NarrowReady};
+ghost use Rattle.narrow.specs.Private.{LengthReady, chunksOf, NarrowReady};
 
 // To 8 bits.
 fn narrow_to8(
@@ -25,7 +26,7 @@ fn narrow_to8(
     zn: usize,
     zd: usize,
 )
-    requires { ⌜ ChunksReady (length (now z)) n 8 2 shift zn zd ⌝ }
+    requires { ⌜ LengthReady (length (now z)) n 8 2 shift zn zd ⌝ }
     ensures { λ _. ⌜ now (z .exit) ≡ chunksOf n 8 2 op u r t shift zn zd (now (z .entry)) ⌝ }
 {
     if op {
@@ -36,10 +37,13 @@ fn narrow_to8(
             if n == 1 {
                 return narrow_chunks(z, 1, 8, 2, true, true, r, false, shift, zn, zd);
             }
-            if n == 16 {
-                return narrow_chunks(z, 16, 8, 2, true, true, r, false, shift, zn, zd);
+            if n == 2 {
+                return narrow_chunks(z, 1, 16, 2, true, true, r, false, shift, zn, zd);
             }
-            return narrow_chunks(z, n, 8, 2, true, true, r, false, shift, zn, zd);
+            if n == 16 {
+                return narrow_chunks(z, 2, 64, 2, true, true, r, false, shift, zn, zd);
+            }
+            return middle::middle8(z, n, r, shift, zn, zd);
         }
         return classes::narrow_any8(z, n, true, false, r, t, shift, zn, zd);
     }
@@ -58,7 +62,7 @@ fn narrow_to16(
     zn: usize,
     zd: usize,
 )
-    requires { ⌜ ChunksReady (length (now z)) n 4 4 shift zn zd ⌝ }
+    requires { ⌜ LengthReady (length (now z)) n 4 4 shift zn zd ⌝ }
     ensures { λ _. ⌜ now (z .exit) ≡ chunksOf n 4 4 op u r t shift zn zd (now (z .entry)) ⌝ }
 {
     if op {
@@ -69,10 +73,13 @@ fn narrow_to16(
             if n == 1 {
                 return narrow_chunks(z, 1, 4, 4, true, true, r, false, shift, zn, zd);
             }
-            if n == 16 {
-                return narrow_chunks(z, 16, 4, 4, true, true, r, false, shift, zn, zd);
+            if n == 2 {
+                return narrow_chunks(z, 1, 8, 4, true, true, r, false, shift, zn, zd);
             }
-            return narrow_chunks(z, n, 4, 4, true, true, r, false, shift, zn, zd);
+            if n == 16 {
+                return narrow_chunks(z, 2, 32, 4, true, true, r, false, shift, zn, zd);
+            }
+            return middle::middle16(z, n, r, shift, zn, zd);
         }
         return classes::narrow_any16(z, n, true, false, r, t, shift, zn, zd);
     }
@@ -91,7 +98,7 @@ fn narrow_to32(
     zn: usize,
     zd: usize,
 )
-    requires { ⌜ ChunksReady (length (now z)) n 2 8 shift zn zd ⌝ }
+    requires { ⌜ LengthReady (length (now z)) n 2 8 shift zn zd ⌝ }
     ensures { λ _. ⌜ now (z .exit) ≡ chunksOf n 2 8 op u r t shift zn zd (now (z .entry)) ⌝ }
 {
     if op {
@@ -102,10 +109,13 @@ fn narrow_to32(
             if n == 1 {
                 return narrow_chunks(z, 1, 2, 8, true, true, r, false, shift, zn, zd);
             }
-            if n == 16 {
-                return narrow_chunks(z, 16, 2, 8, true, true, r, false, shift, zn, zd);
+            if n == 2 {
+                return narrow_chunks(z, 1, 4, 8, true, true, r, false, shift, zn, zd);
             }
-            return narrow_chunks(z, n, 2, 8, true, true, r, false, shift, zn, zd);
+            if n == 16 {
+                return narrow_chunks(z, 2, 16, 8, true, true, r, false, shift, zn, zd);
+            }
+            return middle::middle32(z, n, r, shift, zn, zd);
         }
         return classes::narrow_any32(z, n, true, false, r, t, shift, zn, zd);
     }

@@ -1,24 +1,18 @@
 -- `narrow_all` meets its contract: after i turns o begins with the first i elements. The measure is what is left of the count.
 use mathlib.Core.Path.{_≡_, refl, _∙_}
-use mathlib.Core.Bool.{Bool}
-use mathlib.Core.List.{List, _++_}
-use Prim.Native.Nat.{ℕ, _+_, _-_, _*_, _≤_}
+use mathlib.Core.List.{_++_}
+use Prim.Native.Nat.{_+_, _-_, _*_, _≤_}
 use native.Mathlib.Nat.{zero-mul}
 use native.Mathlib.Omega.{arith}
 use lib.ListN.{length, drop}
-use Rattle.element.specs.Contents.{elem, fill}
+use Rattle.element.specs.Contents.{fill}
 use Rattle.element.proofs.Filling.{turn, again, done}
 use Rattle.part.proofs.Widths.{element-read, element-stored}
-use Rattle.narrowing.specs.Narrowing.{form}
-use Rattle.narrowing.specs.Registers.{element}
 use Rattle.narrowing.proofs.Placed.{stored-lt}
-use Rattle.narrow.proofs.Places.{element-below, made, old}
+use Rattle.narrow.proofs.Places.{elementsIn, element-below, made, old}
 use borrow.Author.Needs.{needs}
 use Rattle.narrow.proofs.elements.narrow_all.Statement.{statement}
 use Rattle.narrow.proofs.elements.narrow_all.Tie as tie
-
-abbrev elementsIn : List ℕ → List ℕ → ℕ → Bool → Bool → Bool → Bool → ℕ → ℕ → ℕ
-elementsIn s o w op u r t shift e = element (form op u) r t (4 * w) shift (elem w e s) (elem w e o)
 
 abbrev Inv-loop : tie.InvT-loop
 Inv-loop s o₀ n w op u r t shift a i₀ o i =

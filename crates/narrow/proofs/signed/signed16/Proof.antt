@@ -2,7 +2,7 @@
 use mathlib.Core.Path.{refl}
 use lib.Dec.{lit≤}
 use mir.Syntax.{w16}
-use Rattle.narrow.proofs.Widths.{lo-fits, hi-fits, lo-carried, hi-carried, shift-ready, up-fits, cast-ok, signed-is}
+use Rattle.narrow.proofs.Widths.{lo-fits, hi-fits, lo-carried, hi-carried, lo-le-hi, shift-ready, up-fits, cast-ok, signed-is}
 use borrow.Author.Needs.{needs}
 use Rattle.narrow.proofs.signed.signed16.Statement.{statement}
 use Rattle.narrow.proofs.signed.signed16.Tie as tie
@@ -20,7 +20,7 @@ cast-within16-2 : tie.Need-cast-within16-2
 cast-within16-2 c = hi-fits w16 8 (lit≤ tt) refl (c .before .before .before .before .before .pre)
 
 within16-requires : tie.Need-within16-requires
-within16-requires c κs = search needs
+within16-requires c κs = lo-le-hi w16 8 (lit≤ tt) refl (c .before .before .before .before .before .pre) (lo-carried w16 8 (lit≤ tt) refl (c .before .before .before .before .before .pre)) (hi-carried w16 8 (lit≤ tt) refl (c .before .before .before .before .before .pre))
 
 shifted16-requires : tie.Need-shifted16-requires
 shifted16-requires c κs = shift-ready w16 8 (lit≤ tt) refl (c .before .before .before .before .before .before .pre) (lo-carried w16 8 (lit≤ tt) refl (c .before .before .before .before .before .before .pre)) (hi-carried w16 8 (lit≤ tt) refl (c .before .before .before .before .before .before .pre)) (record { sfits = c .before .before .before .before .before .to-signed16 .ok }) (c .before .before .before .before .before .to-signed16 .ensures) (record { sfits = c .within16 .ok }) (c .within16 .ensures)

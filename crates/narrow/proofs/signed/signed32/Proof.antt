@@ -2,7 +2,7 @@
 use mathlib.Core.Path.{refl}
 use lib.Dec.{lit≤}
 use mir.Syntax.{w32}
-use Rattle.narrow.proofs.Widths.{lo-fits, hi-fits, lo-carried, hi-carried, shift-ready, up-fits, cast-ok, signed-is}
+use Rattle.narrow.proofs.Widths.{lo-fits, hi-fits, lo-carried, hi-carried, lo-le-hi, shift-ready, up-fits, cast-ok, signed-is}
 use borrow.Author.Needs.{needs}
 use Rattle.narrow.proofs.signed.signed32.Statement.{statement}
 use Rattle.narrow.proofs.signed.signed32.Tie as tie
@@ -20,7 +20,7 @@ cast-within32-2 : tie.Need-cast-within32-2
 cast-within32-2 c = hi-fits w32 16 (lit≤ tt) refl (c .before .before .before .before .before .pre)
 
 within32-requires : tie.Need-within32-requires
-within32-requires c κs = search needs
+within32-requires c κs = lo-le-hi w32 16 (lit≤ tt) refl (c .before .before .before .before .before .pre) (lo-carried w32 16 (lit≤ tt) refl (c .before .before .before .before .before .pre)) (hi-carried w32 16 (lit≤ tt) refl (c .before .before .before .before .before .pre))
 
 shifted32-requires : tie.Need-shifted32-requires
 shifted32-requires c κs = shift-ready w32 16 (lit≤ tt) refl (c .before .before .before .before .before .before .pre) (lo-carried w32 16 (lit≤ tt) refl (c .before .before .before .before .before .before .pre)) (hi-carried w32 16 (lit≤ tt) refl (c .before .before .before .before .before .before .pre)) (record { sfits = c .before .before .before .before .before .to-signed32 .ok }) (c .before .before .before .before .before .to-signed32 .ensures) (record { sfits = c .within32 .ok }) (c .within32 .ensures)

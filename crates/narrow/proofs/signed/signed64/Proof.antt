@@ -2,7 +2,7 @@
 use mathlib.Core.Path.{refl}
 use lib.Dec.{lit≤}
 use mir.Syntax.{w64}
-use Rattle.narrow.proofs.Widths.{lo-is, hi-is, shift-ready, up-fits, cast-ok, signed-is}
+use Rattle.narrow.proofs.Widths.{lo-is, hi-is, lo-le-hi, shift-ready, up-fits, cast-ok, signed-is}
 use borrow.Author.Needs.{needs}
 use Rattle.narrow.proofs.signed.signed64.Statement.{statement}
 use Rattle.narrow.proofs.signed.signed64.Tie as tie
@@ -11,7 +11,7 @@ to-signed64-requires : tie.Need-to-signed64-requires
 to-signed64-requires c κs = search needs
 
 within64-requires : tie.Need-within64-requires
-within64-requires c κs = search needs
+within64-requires c κs = lo-le-hi w64 32 (lit≤ tt) refl (c .before .before .before .pre) (lo-is w64 32 (lit≤ tt) refl (c .before .before .before .pre)) (hi-is w64 32 (lit≤ tt) refl (c .before .before .before .pre))
 
 shifted64-requires : tie.Need-shifted64-requires
 shifted64-requires c κs = shift-ready w64 32 (lit≤ tt) refl (c .before .before .before .before .pre) (lo-is w64 32 (lit≤ tt) refl (c .before .before .before .before .pre)) (hi-is w64 32 (lit≤ tt) refl (c .before .before .before .before .pre)) (record { sfits = c .before .before .before .to-signed64 .ok }) (c .before .before .before .to-signed64 .ensures) (record { sfits = c .within64 .ok }) (c .within64 .ensures)
