@@ -8,7 +8,7 @@ use reference::samples::{listing_words, matching_word};
 use reference::setting::FULL;
 
 /// The vector lengths that every case is timed at.
-pub const LENGTHS: [u32; 3] = [128, 512, 2048];
+pub const LENGTHS: [u32; 5] = [128, 256, 512, 1024, 2048];
 pub const FEATURES: u32 = 31;
 const STRETCH: usize = 256;
 

@@ -3,8 +3,8 @@
 //! Times stretches of 256 words through the proved library's run and through
 //! the baseline's, in ns a word: for each form (each of the sixteen narrowing
 //! words) and element size 256 words with other fields and registers, and mixed
-//! stretches of all forms. At VL 128, 512
-//! and 2048. Both sides start from the same machine, and must end alike in
+//! stretches of all forms. At each of the five vector lengths; the bars are at VL
+//! 128 and 2048. Both sides start from the same machine, and must end alike in
 //! every answer and byte. A round times both, the one that goes first changing
 //! from round to round, and gives a ratio proved/baseline; the table has the
 //! median and the minimum of the rounds' ratios, each side's least time, and
@@ -16,8 +16,9 @@
 //!
 //! The files are random, and no word of a form's row writes what one of them
 //! reads (but for what a word with T keeps of its own destination), so that the
-//! sources stay random: DUP's chosen element is true about every second time. Where it is always false the baseline's loop is passed
-//! over; the row "DUP B, false" shows that, with no bar of its own.
+//! sources stay random: DUP's chosen element is true about every second time.
+//! Where it is always false the baseline's loop is passed over; the row "DUP B,
+//! false" shows that, with no bar of its own.
 //!
 //! With `cleared` every file is zeros at the start, as for a long session. Then
 //! no element of a predicate is true, so that PEXT and DUP only clear, which
