@@ -1,4 +1,5 @@
-// An unsigned element's words at each size. Each call of the loop has literals (src/classes.rt says why).
+// An unsigned element's words at each size. Each call of the loop has literals (src/classes.rt says why). UQSHRN and UQRSHRN are
+// called with T set only, since src/sizes.rt has the others; their arms for T clear keep `middle` out of the run's loop.
 use crate::elements::narrow_chunks;
 use crate::middle;
 ghost use mathlib.Core.Path.{_≡_};
