@@ -96,10 +96,6 @@ pub record PartsReady (from to n per w : ℕ) (op u r : Bool) (shift : ℕ) (lo 
   pub bytes : Width w
   pub word : Prepared op u r (4 * w) shift lo hi top h
 
--- the numbers of chunks of 16 bytes that a vector length has
-abbrev pub Chunks : ℕ → Type 0
-Chunks n = (n ≡ 1) ⊎ ((n ≡ 2) ⊎ ((n ≡ 16) ⊎ ((n ≡ 4) ⊎ (n ≡ 8))))
-
 -- so in the slots of a file
 pub record ChunksReady (file n per w shift zn zd : ℕ) : Type 0 where
   pub slots : file ≡ vectorFile
@@ -111,12 +107,19 @@ pub record ChunksReady (file n per w shift zn zd : ℕ) : Type 0 where
   pub from : zn < 32
   pub to : zd < 32
 
--- so where n is the number of chunks at a middle length
+-- the numbers of chunks of 16 bytes at the middle lengths, VL 512 and 1024, and at all five
+abbrev pub Middle : ℕ → Type 0
+Middle n = (n ≡ 4) ⊎ (n ≡ 8)
+
+abbrev pub Chunks : ℕ → Type 0
+Chunks n = (n ≡ 1) ⊎ ((n ≡ 2) ⊎ ((n ≡ 16) ⊎ Middle n))
+
+-- chunks in the slots of a file, where n is the number at a middle length
 pub record MiddleReady (file n per w shift zn zd : ℕ) : Type 0 where
   pub chunks : ChunksReady file n per w shift zn zd
-  pub middle : (n ≡ 4) ⊎ (n ≡ 8)
+  pub middle : Middle n
 
--- so where n is the number of chunks at a vector length
+-- where n is the number at a vector length
 pub record LengthReady (file n per w shift zn zd : ℕ) : Type 0 where
   pub chunks : ChunksReady file n per w shift zn zd
   pub length : Chunks n

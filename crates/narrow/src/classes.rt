@@ -1,6 +1,4 @@
-// The sixteen words at each size, by their class. Each call of the loop has literals, so that the compiler makes a loop for each. At
-// VL 2048 the chunks are longer and their number is a literal too, for which it makes straight code; to 8 bits, and at a shorter
-// length, the elements are one chunk: it would take chunks of 16 bytes together, which is slower by far.
+// The sixteen words at each size, by their class.
 use crate::signed_words;
 use crate::unsigned_words;
 ghost use mathlib.Core.Path.{_≡_};

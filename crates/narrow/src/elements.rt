@@ -1,4 +1,6 @@
-// The elements of a register, a chunk of them at a time.
+// The elements of a register, a chunk of them at a time. Each call has literals, so that the compiler makes a loop for each: the
+// width, the bits, and at VL 2048 the chunks, two of 128 bytes, for which it makes straight code. To 8 bits, at a shorter length, the
+// elements are one chunk: it would take chunks of 16 bytes together, which is slower by far (docs/DECISIONS.md).
 use crate::bounds;
 use crate::bounds::Bounds;
 use crate::one;

@@ -1,5 +1,4 @@
-// A signed element's words at each size. Each call of the loop has literals, so that the compiler makes a loop for each: the
-// width, the four bits, and the number of chunks at VL 2048 (src/classes.rt says why).
+// A signed element's words at each size. Each call of the loop has literals (src/elements.rt says why).
 use crate::elements::narrow_chunks;
 ghost use mathlib.Core.Path.{_≡_};
 ghost use lib.ListN.{length};

@@ -1,4 +1,4 @@
-// An unsigned element's words at each size. Each call of the loop has literals (src/classes.rt says why). UQSHRN and UQRSHRN are
+// An unsigned element's words at each size. Each call of the loop has literals (src/elements.rt says why). UQSHRN and UQRSHRN are
 // called with T set only, since src/sizes.rt has the others; their arms for T clear keep `middle` out of the run's loop.
 use crate::elements::narrow_chunks;
 use crate::middle;

@@ -9,6 +9,7 @@ use std::process::{Command, Output};
 
 use called::{called, complained, text};
 use gighull::ffi::{ARCHIVE, ARCHIVE_HASH};
+use speed::cases::LENGTHS;
 
 const HEADERS: &str = concat!(env!("CARGO_MANIFEST_DIR"), "/../../include");
 
@@ -102,8 +103,8 @@ fn archivespeed_has_a_line_for_each_case_and_length() {
     let output = archivespeed(&[ARCHIVE, ARCHIVE, "1"]);
     assert!(output.status.success(), "{output:?}");
     let report = text(&output.stdout);
-    // 67 stretches and 65 times steps at five lengths, and the listing.
-    let lines = 5 + (67 + 65) * 5 + 1 + 1;
+    // 67 stretches and 65 times steps at each length, and the listing.
+    let lines = 5 + (67 + 65) * LENGTHS.len() + 1 + 1;
     assert_eq!(report.lines().count(), lines, "{report}");
     for part in [
         "\n| PEXT1 B | 128 | ",
@@ -132,8 +133,8 @@ fn archivespeed_times_old_words_with_an_old_archive() {
         let output = archivespeed(&arguments);
         assert!(output.status.success(), "{output:?}");
         let report = text(&output.stdout);
-        // 22 stretches and 20 times steps at five lengths, and the listing.
-        let lines = 5 + (22 + 20) * 5 + 1 + 1;
+        // 22 stretches and 20 times steps at each length, and the listing.
+        let lines = 5 + (22 + 20) * LENGTHS.len() + 1 + 1;
         assert_eq!(report.lines().count(), lines, "{report}");
         let row = |start: &str| report.lines().find(|line| line.starts_with(start));
         let narrow = row("| UQRSHRNB H | 2048 | ").unwrap();

@@ -33,19 +33,19 @@ unfolding fill
 loop-holds c = (omega arith, refl, simp zero-mul)
 
 mul-b : tie.Need-mul-b Inv-loop μ-loop
-mul-b c = omega (arith, room (c))
+mul-b c = omega (arith, room c)
 
 add-e : tie.Need-add-e Inv-loop μ-loop
-add-e c = omega (arith, room (c))
+add-e c = omega (arith, room c)
 
 sub-narrow-all : tie.Need-sub-narrow-all Inv-loop μ-loop
-sub-narrow-all c = omega (arith, room (c))
+sub-narrow-all c = omega (arith, room c)
 
 part-narrow-all-start : tie.Need-part-narrow-all-start Inv-loop μ-loop
-part-narrow-all-start c = omega (arith, room (c))
+part-narrow-all-start c = omega (arith, room c)
 
 part-narrow-all-end : tie.Need-part-narrow-all-end Inv-loop μ-loop
-part-narrow-all-end c = omega (arith, room (c))
+part-narrow-all-end c = omega (arith, room c)
 
 sub-narrow-all-2 : tie.Need-sub-narrow-all-2 Inv-loop μ-loop
 sub-narrow-all-2 c = omega (arith, room (c .before))
