@@ -10,7 +10,7 @@ pub fn form_of(word: u32) -> u32 {
     let pext1 = word & 0xff3f_fc10 == 0x2520_7010;
     let pext2 = word & 0xff3f_fe10 == 0x2520_7410;
     // tszh:tszl is not 0000
-    let dup = (word & 0xff20_c210 == 0x2520_4000) & (word & 0x005c_0000 != 0);
+    let psel = (word & 0xff20_c210 == 0x2520_4000) & (word & 0x005c_0000 != 0);
     // size is 01 or 10
     let luti4c = (word & 0xfffe_fc03 == 0xc08a_9000) | (word & 0xfffe_fc03 == 0xc08a_a000);
     // size is 01
@@ -19,7 +19,7 @@ pub fn form_of(word: u32) -> u32 {
     let narrow = (word & 0xffa0_c000 == 0x4520_0000) & (word & 0x0058_0000 != 0);
     u32::from(pext1)
         + 2 * u32::from(pext2)
-        + 3 * u32::from(dup)
+        + 3 * u32::from(psel)
         + 4 * u32::from(luti4c)
         + 5 * u32::from(luti4s)
         + (6 + (word >> 10 & 15)) * u32::from(narrow)

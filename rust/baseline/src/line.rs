@@ -18,7 +18,7 @@ static TAILS: [Tail; 22] = [
     tail(b" UNDEFINED\n"),
     tail(b" PEXT1\n"),
     tail(b" PEXT2\n"),
-    tail(b" DUP\n"),
+    tail(b" PSEL\n"),
     tail(b" LUTI4C\n"),
     tail(b" LUTI4S\n"),
     tail(b" SQSHRUNB\n"),
@@ -108,7 +108,7 @@ mod tests {
         assert_eq!(line(0x2520_4000, 0), "25204000 UNDEFINED\n");
         assert_eq!(line(0x2520_7010, 1), "25207010 PEXT1\n");
         assert_eq!(line(0x2520_741f, 2), "2520741f PEXT2\n");
-        assert_eq!(line(0x25e0_4000, 3), "25e04000 DUP\n");
+        assert_eq!(line(0x25e0_4000, 3), "25e04000 PSEL\n");
         assert_eq!(line(0xc08a_9000, 4), "c08a9000 LUTI4C\n");
         assert_eq!(line(0xc09a_9000, 5), "c09a9000 LUTI4S\n");
         for (word, name) in (6..).zip(NARROW_NAMES) {
@@ -121,7 +121,7 @@ mod tests {
     fn every_digit() {
         for byte in 0..=255 {
             let word = byte << 24 | byte << 8 | 0x0001_0002;
-            assert_eq!(line(word, 3), format!("{word:08x} DUP\n"));
+            assert_eq!(line(word, 3), format!("{word:08x} PSEL\n"));
         }
     }
 }

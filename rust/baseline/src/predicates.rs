@@ -1,4 +1,4 @@
-//! PEXT and DUP on the predicate registers.
+//! PEXT and PSEL on the predicate registers.
 
 pub const SLOTS: usize = 16;
 pub const SLOT_BYTES: usize = 32;
@@ -30,31 +30,30 @@ pub fn pext(counter: u16, size: usize, portion: usize, vl: usize, destination: &
     }
 }
 
-/// The element of `pn` at `base` + `offset`, to every element of `pd` that is
-/// true in `pg`.
-#[expect(clippy::too_many_arguments, reason = "DUP has that many fields")]
-pub fn dup(
+/// All of `pn` to `pd`, also the bits between elements, if the element of `pm`
+/// at `base` + `offset` is true; else zeros.
+#[expect(clippy::too_many_arguments, reason = "PSEL has that many fields")]
+pub fn psel(
     slots: &mut Predicates,
     size: usize,
     base: u32,
     offset: u32,
-    pg: usize,
     pn: usize,
+    pm: usize,
     pd: usize,
     vl: usize,
 ) {
     let step = size / 8;
     let elements = vl / size;
     let index = (u64::from(base) + u64::from(offset)) as usize & (elements - 1);
-    let value = bit(&slots[pn], index * step);
+    let chosen = bit(&slots[pm], index * step);
     // The destination may be a source.
-    let governing = slots[pg];
+    let copied = slots[pn];
     let destination = &mut slots[pd][..vl / 64];
-    destination.fill(0);
-    for e in 0..elements {
-        if value && bit(&governing, e * step) {
-            set_bit(destination, e * step);
-        }
+    if chosen {
+        destination.copy_from_slice(&copied[..vl / 64]);
+    } else {
+        destination.fill(0);
     }
 }
 

@@ -125,16 +125,16 @@ impl<'a> Machine<'a> {
                 predicates::pext(counter, size, portion, vl, &mut self.p[pd][..vl / 64]);
                 predicates::pext(counter, size, portion + 1, vl, &mut self.p[next][..vl / 64]);
             }
-            Instruction::Dup {
+            Instruction::Psel {
                 size,
                 offset,
-                rm,
-                pg,
+                rv,
                 pn,
+                pm,
                 pd,
             } => {
                 open(scalars.v, 4)?;
-                predicates::dup(self.p, size, scalars.w[rm], offset, pg, pn, pd, vl);
+                predicates::psel(self.p, size, scalars.w[rv], offset, pn, pm, pd, vl);
             }
             Instruction::Luti4 {
                 size,

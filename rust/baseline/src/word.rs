@@ -18,13 +18,15 @@ pub enum Instruction {
         pn: usize,
         pd: usize,
     },
-    Dup {
+    Psel {
         size: usize,
         offset: u32,
         /// 0 to 3 for W12 to W15
-        rm: usize,
-        pg: usize,
+        rv: usize,
+        /// the register that is copied
         pn: usize,
+        /// the register of the one element
+        pm: usize,
         pd: usize,
     },
     /// LUTI4C and LUTI4S: to `zd` and three more registers, `stride` apart.
@@ -72,7 +74,7 @@ pub fn decode(features: u32, word: u32) -> Option<Instruction> {
             pn: 8 + field(word, 5, 3),
             pd: field(word, 0, 4),
         })
-    } else if word & 0xff20_c210 == 0x2520_4000 && has(SME) {
+    } else if word & 0xff20_c210 == 0x2520_4000 && has(SME | SVE2P1) {
         // i1:tszh:tszl; the lowest set bit of tszh:tszl gives the size, the
         // bits above it are the offset.
         let immediate = field(word, 22, 2) << 3 | field(word, 18, 3);
@@ -80,12 +82,12 @@ pub fn decode(features: u32, word: u32) -> Option<Instruction> {
             return None;
         }
         let zeros = immediate.trailing_zeros();
-        Some(Instruction::Dup {
+        Some(Instruction::Psel {
             size: 8 << zeros,
             offset: (immediate >> (zeros + 1)) as u32,
-            rm: field(word, 16, 2),
-            pg: field(word, 10, 4),
-            pn: field(word, 5, 4),
+            rv: field(word, 16, 2),
+            pn: field(word, 10, 4),
+            pm: field(word, 5, 4),
             pd: field(word, 0, 4),
         })
     } else if word & 0xfffe_cc03 == 0xc08a_8000 && has(SME2) {
