@@ -25,8 +25,9 @@ pub fn needed(form: Form, setting: Setting) -> Flags {
     match form {
         Form::Pext1 | Form::Pext2 if setting.has(SVE2P1) => V,
         Form::Pext1 | Form::Pext2 => S,
-        // V also where the feature is only SME: document 01 says so.
-        Form::Dup | Form::Narrow => V,
+        // V also where the feature is only SME: so says document 01, and for
+        // PSEL document 02, request 2, leaves it so.
+        Form::Psel | Form::Narrow => V,
         Form::Luti4c | Form::Luti4s => S_AND_T,
     }
 }

@@ -4,14 +4,15 @@
 //! Every stretch here is accepted throughout on its machine.
 
 use crate::instruction::Form;
+use crate::machine::Flags;
 use crate::random::Random;
 use crate::rearrangement::{Permission, permitted};
 use crate::roles::{
     PREDICATE_FORMS, PREDICATES_READ, PREDICATES_WRITTEN, Role, VECTOR_FORMS, VECTORS_READ,
-    VECTORS_WRITTEN, apart, word_with,
+    VECTORS_WRITTEN, apart, word_of, word_with,
 };
 use crate::samples::{matching_word, narrow_word};
-use crate::setting::{ALL_FEATURES, Setting, VECTOR_LENGTHS};
+use crate::setting::{ALL_FEATURES, Setting, VECTOR_LENGTHS, WITHOUT_SME};
 use crate::start::Start;
 use crate::stretches::{
     any_forbidden_order, any_permitted_order, any_setting, any_stretch, rearranged, stretch_of,
@@ -53,6 +54,7 @@ pub fn generate(random: &mut Random) -> Vec<Case> {
     list.every_order();
     list.any_stretches();
     list.long_stretches();
+    list.selections();
     list.cases
 }
 
@@ -297,7 +299,7 @@ impl List<'_> {
         let mut start = Start::any(self.random, setting);
         if self.random.coin() {
             let counter = self.random.pick(&NOTED_COUNTERS);
-            start.set_predicate(8 + self.random.below(8), counter);
+            start.set_predicate(8 + self.random.below(8), 0, counter);
             let (register, byte) = (self.random.below(32), self.random.below(vl / 8 - 3));
             start.set_vector(register, byte, self.random.next_u32());
         }
@@ -321,6 +323,60 @@ impl List<'_> {
             let words = stretch_of(self.random, &Form::ALL, length);
             self.add_any_orders(start, words);
         }
+    }
+
+    /// PSEL of every size at every length, with SVE2p1 alone and only V open,
+    /// by elements that are all true and by elements that are all false.
+    fn selections(&mut self) {
+        for vl in VECTOR_LENGTHS {
+            for size in [8, 16, 32, 64] {
+                let mut start = self.start();
+                start.setting = Setting {
+                    vl,
+                    features: WITHOUT_SME,
+                };
+                start.flags = Flags {
+                    v: true,
+                    s: false,
+                    t: false,
+                };
+                let number = self.random.below(8);
+                let all_true = (vl / size).ilog2().is_multiple_of(2);
+                let counter = if all_true { 0x8001 } else { 0x0001 };
+                start.set_predicate(8 + number, 0, counter);
+                let words = self.selection(size, number);
+                self.add_any_orders(start, words);
+            }
+        }
+    }
+
+    /// A mask is extracted from the counter in P(8 + number), by its element
+    /// another register is copied, and the copy is read as a counter, as a
+    /// mask and whole. A narrowing word has no part in it.
+    fn selection(&mut self, size: u32, number: u32) -> Vec<u32> {
+        let [counter, source, copy] = [0, 2, 5].map(|distance| 8 + (number + distance) % 8);
+        let [mask, first, second, third] = [0, 1, 3, 6].map(|distance| (number + distance) % 8);
+        vec![
+            self.extract(size, counter, mask),
+            self.select(size, [source, mask, copy]),
+            self.extract(size, copy, first),
+            self.select(size, [counter, copy, second]),
+            self.select(size, [copy, mask, third]),
+            matching_word(self.random, Form::Narrow),
+        ]
+    }
+
+    /// PEXT1 of any portion.
+    fn extract(&mut self, size: u32, counter: u32, pd: u32) -> u32 {
+        let portion = self.random.below(4);
+        word_of(Form::Pext1, [size, portion, counter, pd, 0, 0])
+    }
+
+    /// PSEL at any index, with Pn, Pm and Pd.
+    fn select(&mut self, size: u32, [pn, pm, pd]: [u32; 3]) -> u32 {
+        let offset = self.random.below(128 / size);
+        let index = 12 + self.random.below(4);
+        word_of(Form::Psel, [size, offset, index, pn, pm, pd])
     }
 }
 

@@ -3,18 +3,19 @@
 //! Every pair is asked in both orders. Words are made by giving a register to
 //! one of a form's roles; the rest is anything.
 
-use crate::encode::encode;
-use crate::instruction::{Form, Instruction};
+use crate::instruction::Form;
 use crate::once::Once;
 use crate::question::Question;
 use crate::random::Random;
 use crate::roles::{
     PREDICATE_FORMS, PREDICATES_READ, PREDICATES_WRITTEN, Role, VECTOR_FORMS, VECTORS_READ,
-    VECTORS_WRITTEN, apart, word_with,
+    VECTORS_WRITTEN, apart, word_of, word_with,
 };
 use crate::samples;
-use crate::setting::{ALL_FEATURES, FULL, Setting, VECTOR_LENGTHS, features_are_allowed};
-use crate::values::{FEATURES_ABOVE, LENGTHS_NOT_ALLOWED, PRINTED_WORDS};
+use crate::setting::{
+    ALL_FEATURES, FULL, Setting, VECTOR_LENGTHS, WITHOUT_SME, features_are_allowed,
+};
+use crate::values::{FEATURES_ABOVE, FEATURES_FOR_PSEL, LENGTHS_NOT_ALLOWED, PRINTED_WORDS};
 
 pub fn generate(seed: u64) -> Vec<Question> {
     let mut list = List {
@@ -31,6 +32,7 @@ pub fn generate(seed: u64) -> Vec<Question> {
     list.every_feature_number();
     list.lengths_not_allowed();
     list.undefined_words();
+    list.psel();
     list.questions.into_list()
 }
 
@@ -53,10 +55,12 @@ impl List {
 
     /// All features and any allowed vector length.
     fn all_features(&mut self) -> Setting {
-        Setting {
-            vl: self.random.pick(&VECTOR_LENGTHS),
-            features: ALL_FEATURES,
-        }
+        self.any_length(ALL_FEATURES)
+    }
+
+    fn any_length(&mut self, features: u32) -> Setting {
+        let vl = self.random.pick(&VECTOR_LENGTHS);
+        Setting { vl, features }
     }
 
     /// Every role that writes with every role, on one register: always yes.
@@ -66,7 +70,7 @@ impl List {
         for written in PREDICATES_WRITTEN {
             for other in PREDICATES_WRITTEN.into_iter().chain(PREDICATES_READ) {
                 for register in [0, 8, 15, any_predicate] {
-                    self.ask_roles(written, other, register);
+                    self.ask_roles(ALL_FEATURES, written, other, register);
                 }
             }
         }
@@ -77,7 +81,7 @@ impl List {
                 let start = self.random.below(32);
                 let mut asked = 0;
                 for register in (0..32).map(|n| (start + 5 * n) % 32) {
-                    if asked < 2 && self.ask_roles(written, other, register) {
+                    if asked < 2 && self.ask_roles(ALL_FEATURES, written, other, register) {
                         asked += 1;
                     }
                 }
@@ -85,8 +89,8 @@ impl List {
         }
     }
 
-    fn ask_roles(&mut self, a: Role, b: Role, register: u32) -> bool {
-        let setting = self.all_features();
+    fn ask_roles(&mut self, features: u32, a: Role, b: Role, register: u32) -> bool {
+        let setting = self.any_length(features);
         let first = word_with(&mut self.random, a, register);
         let second = word_with(&mut self.random, b, register);
         match (first, second) {
@@ -105,9 +109,7 @@ impl List {
             for b in PREDICATES_READ {
                 for _ in 0..3 {
                     let register = 8 + self.random.below(8);
-                    let setting = self.all_features();
-                    let (first, second) = apart(&mut self.random, a, b, register);
-                    self.add(setting, first, second);
+                    self.ask_readers(ALL_FEATURES, a, b, register);
                 }
             }
         }
@@ -115,12 +117,16 @@ impl List {
             for b in VECTORS_READ {
                 for _ in 0..4 {
                     let register = self.random.below(32);
-                    let setting = self.all_features();
-                    let (first, second) = apart(&mut self.random, a, b, register);
-                    self.add(setting, first, second);
+                    self.ask_readers(ALL_FEATURES, a, b, register);
                 }
             }
         }
+    }
+
+    fn ask_readers(&mut self, features: u32, a: Role, b: Role, register: u32) {
+        let setting = self.any_length(features);
+        let (first, second) = apart(&mut self.random, a, b, register);
+        self.add(setting, first, second);
     }
 
     /// Z3 beside P3: one number in every field of both words that takes it.
@@ -141,7 +147,7 @@ impl List {
         let mut fields = samples::fields_in_range(&mut self.random, form);
         match form {
             Form::Pext1 | Form::Pext2 => fields[3] = register,
-            Form::Dup => fields[3..].fill(register),
+            Form::Psel => fields[3..].fill(register),
             Form::Luti4c | Form::Luti4s => fields[2] = register,
             Form::Narrow => fields[3..5].fill(register),
         }
@@ -149,7 +155,7 @@ impl List {
             Form::Pext1 | Form::Pext2 if register >= 8 => fields[2] = register,
             Form::Luti4c => fields[3] = register / 4 * 4,
             Form::Luti4s => fields[3] = register % 4,
-            Form::Pext1 | Form::Pext2 | Form::Dup | Form::Narrow => {}
+            Form::Pext1 | Form::Pext2 | Form::Psel | Form::Narrow => {}
         }
         word_of(form, fields)
     }
@@ -256,10 +262,10 @@ impl List {
     }
 
     fn ask_forms(&mut self, features: u32, a: Form, b: Form) {
-        let vl = self.random.pick(&VECTOR_LENGTHS);
+        let setting = self.any_length(features);
         let first = samples::matching_word(&mut self.random, a);
         let second = samples::matching_word(&mut self.random, b);
-        self.add(Setting { vl, features }, first, second);
+        self.add(setting, first, second);
     }
 
     /// With words that are read and one that is not: 1 comes before 3.
@@ -290,11 +296,33 @@ impl List {
             self.add(setting, miss, other);
         }
     }
-}
 
-/// The word of a form with fields in range.
-fn word_of(form: Form, fields: [u32; 6]) -> u32 {
-    encode(FULL, Instruction::from_fields(form, fields)).expect("the fields are in range")
+    /// PSEL beside every form under the feature numbers it hangs on; and with
+    /// SVE2p1 alone in each of its roles beside every role that it can meet.
+    fn psel(&mut self) {
+        for features in FEATURES_FOR_PSEL {
+            for form in Form::ALL {
+                self.ask_forms(features, Form::Psel, form);
+            }
+        }
+        let has_psel = |a: Role, b: Role| [a.form, b.form].contains(&Form::Psel);
+        for written in PREDICATES_WRITTEN {
+            for other in PREDICATES_WRITTEN.into_iter().chain(PREDICATES_READ) {
+                if has_psel(written, other) {
+                    let register = 8 + self.random.below(8);
+                    self.ask_roles(WITHOUT_SME, written, other, register);
+                }
+            }
+        }
+        for a in PREDICATES_READ {
+            for b in PREDICATES_READ {
+                if has_psel(a, b) {
+                    let register = 8 + self.random.below(8);
+                    self.ask_readers(WITHOUT_SME, a, b, register);
+                }
+            }
+        }
+    }
 }
 
 #[cfg(test)]

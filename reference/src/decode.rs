@@ -35,17 +35,17 @@ fn read_fields(form: Form, word: u32) -> Instruction {
             counter: 8 + bits(word, 5, 3),
             pd: bits(word, 0, 4),
         },
-        Form::Dup => {
+        Form::Psel => {
             let i1 = bits(word, 23, 1);
             let tszh = bits(word, 22, 1);
             let tszl = bits(word, 18, 3);
-            let (size, offset) = dup_size_and_offset(i1, tszh, tszl);
-            Instruction::Dup {
+            let (size, offset) = psel_size_and_offset(i1, tszh, tszl);
+            Instruction::Psel {
                 size,
                 offset,
                 index: 12 + bits(word, 16, 2),
-                pg: bits(word, 10, 4),
-                pn: bits(word, 5, 4),
+                pn: bits(word, 10, 4),
+                pm: bits(word, 5, 4),
                 pd: bits(word, 0, 4),
             }
         }
@@ -77,7 +77,7 @@ fn read_fields(form: Form, word: u32) -> Instruction {
 }
 
 /// The `case tszh:tszl` of document 002, with imm = i1:tszh:tszl.
-fn dup_size_and_offset(i1: u32, tszh: u32, tszl: u32) -> (u32, u32) {
+fn psel_size_and_offset(i1: u32, tszh: u32, tszl: u32) -> (u32, u32) {
     let imm = (i1 << 4) | (tszh << 3) | tszl;
     if imm & 0b0001 != 0 {
         (8, imm >> 1) // xxx1
@@ -111,14 +111,14 @@ mod tests {
     use crate::setting::FULL;
 
     #[test]
-    fn dup_cases() {
-        assert_eq!(dup_size_and_offset(1, 1, 0b000), (64, 1));
-        assert_eq!(dup_size_and_offset(0, 1, 0b000), (64, 0));
-        assert_eq!(dup_size_and_offset(1, 0, 0b100), (32, 2));
-        assert_eq!(dup_size_and_offset(1, 1, 0b110), (16, 7));
-        assert_eq!(dup_size_and_offset(0, 0, 0b010), (16, 0));
-        assert_eq!(dup_size_and_offset(1, 1, 0b111), (8, 15));
-        assert_eq!(dup_size_and_offset(0, 1, 0b011), (8, 5));
+    fn psel_cases() {
+        assert_eq!(psel_size_and_offset(1, 1, 0b000), (64, 1));
+        assert_eq!(psel_size_and_offset(0, 1, 0b000), (64, 0));
+        assert_eq!(psel_size_and_offset(1, 0, 0b100), (32, 2));
+        assert_eq!(psel_size_and_offset(1, 1, 0b110), (16, 7));
+        assert_eq!(psel_size_and_offset(0, 0, 0b010), (16, 0));
+        assert_eq!(psel_size_and_offset(1, 1, 0b111), (8, 15));
+        assert_eq!(psel_size_and_offset(0, 1, 0b011), (8, 5));
     }
 
     #[test]

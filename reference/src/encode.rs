@@ -35,20 +35,20 @@ pub fn in_range(instruction: Instruction) -> bool {
             counter,
             pd,
         } => size_index(size).is_some() && i1 <= 1 && is_counter(counter) && is_predicate(pd),
-        Instruction::Dup {
+        Instruction::Psel {
             size,
             offset,
             index,
-            pg,
             pn,
+            pm,
             pd,
         } => {
             // The size is tested first: 0 must divide nothing.
             size_index(size).is_some()
                 && offset < 128 / size
                 && (12..=15).contains(&index)
-                && is_predicate(pg)
                 && is_predicate(pn)
+                && is_predicate(pm)
                 && is_predicate(pd)
         }
         Instruction::Luti4c { size, i1, zn, zd } => {
@@ -93,12 +93,12 @@ fn field_bits(instruction: Instruction) -> u32 {
             counter,
             pd,
         } => size_bits(size) << 22 | i1 << 8 | (counter - 8) << 5 | pd,
-        Instruction::Dup {
+        Instruction::Psel {
             size,
             offset,
             index,
-            pg,
             pn,
+            pm,
             pd,
         } => {
             // i1:tszh:tszl is the offset, then a 1, then a 0 for each
@@ -107,7 +107,7 @@ fn field_bits(instruction: Instruction) -> u32 {
             let i1 = (imm >> 4) & 1;
             let tszh = (imm >> 3) & 1;
             let tszl = imm & 7;
-            i1 << 23 | tszh << 22 | tszl << 18 | (index - 12) << 16 | pg << 10 | pn << 5 | pd
+            i1 << 23 | tszh << 22 | tszl << 18 | (index - 12) << 16 | pn << 10 | pm << 5 | pd
         }
         Instruction::Luti4c { size, i1, zn, zd } => {
             size_bits(size) << 12 | i1 << 16 | zn << 5 | (zd / 4) << 2
@@ -167,17 +167,17 @@ mod tests {
     use crate::instruction::Form;
     use crate::setting::FULL;
 
-    fn dup(fields: [u32; 6]) -> Instruction {
-        Instruction::from_fields(Form::Dup, fields)
+    fn psel(fields: [u32; 6]) -> Instruction {
+        Instruction::from_fields(Form::Psel, fields)
     }
 
     #[test]
     fn refusals_come_in_the_order_1_9_3() {
-        let good = dup([64, 1, 12, 0, 0, 0]);
-        let bad = dup([64, 2, 12, 0, 0, 0]);
-        let sve_only = Setting {
+        let good = psel([64, 1, 12, 0, 0, 0]);
+        let bad = psel([64, 2, 12, 0, 0, 0]);
+        let sve2_alone = Setting {
             vl: 128,
-            features: 3,
+            features: 1,
         };
         let wrong = Setting {
             vl: 128,
@@ -185,21 +185,21 @@ mod tests {
         };
         assert_eq!(encode(FULL, good), Ok(0x25e0_4000));
         assert_eq!(encode(FULL, bad), Err(Refusal::Range));
-        assert_eq!(encode(sve_only, good), Err(Refusal::Undefined));
-        assert_eq!(encode(sve_only, bad), Err(Refusal::Range));
+        assert_eq!(encode(sve2_alone, good), Err(Refusal::Undefined));
+        assert_eq!(encode(sve2_alone, bad), Err(Refusal::Range));
         assert_eq!(encode(wrong, good), Err(Refusal::Setting));
         assert_eq!(encode(wrong, bad), Err(Refusal::Setting));
     }
 
     #[test]
     fn size_zero_divides_nothing() {
-        assert_eq!(encode(FULL, dup([0, 0, 12, 0, 0, 0])), Err(Refusal::Range));
+        assert_eq!(encode(FULL, psel([0, 0, 12, 0, 0, 0])), Err(Refusal::Range));
     }
 
     #[test]
     fn casts_do_not_let_values_in() {
         for size in [264, 65544, (1 << 31) + 8] {
-            let instruction = dup([size, 0, 12, 0, 0, 0]);
+            let instruction = psel([size, 0, 12, 0, 0, 0]);
             assert_eq!(encode(FULL, instruction), Err(Refusal::Range));
         }
         for fields in [[14, 8, 264, 0, 0, 0], [256 + 14, 8, 8, 0, 0, 0]] {

@@ -1,14 +1,15 @@
 //! The six forms and their fields.
 //!
-//! Fields are as document 01 reads them: element sizes in bits and register
-//! numbers, never raw bits. An `Instruction` may hold any `u32` in any field;
-//! only `encode` asks whether they are in range.
+//! Fields are as document 01 reads them, PSEL's as document 02, request 2,
+//! names them: element sizes in bits and register numbers, never raw bits. An
+//! `Instruction` may hold any `u32` in any field; only `encode` asks whether
+//! they are in range.
 
 #[derive(Clone, Copy, Debug, PartialEq, Eq, Hash)]
 pub enum Form {
     Pext1,
     Pext2,
-    Dup,
+    Psel,
     Luti4c,
     Luti4s,
     /// The sixteen words of document 004's layout.
@@ -20,7 +21,7 @@ impl Form {
     pub const ALL: [Form; 6] = [
         Form::Pext1,
         Form::Pext2,
-        Form::Dup,
+        Form::Psel,
         Form::Luti4c,
         Form::Luti4s,
         Form::Narrow,
@@ -32,7 +33,7 @@ impl Form {
         match self {
             Form::Pext1 => 1,
             Form::Pext2 => 2,
-            Form::Dup => 3,
+            Form::Psel => 3,
             Form::Luti4c => 4,
             Form::Luti4s => 5,
             Form::Narrow => 7,
@@ -48,7 +49,7 @@ impl Form {
         match self {
             Form::Pext1 => "PEXT1",
             Form::Pext2 => "PEXT2",
-            Form::Dup => "DUP",
+            Form::Psel => "PSEL",
             Form::Luti4c => "LUTI4C",
             Form::Luti4s => "LUTI4S",
             Form::Narrow => "NARROW",
@@ -59,7 +60,7 @@ impl Form {
         match self {
             Form::Pext1 | Form::Pext2 | Form::Luti4c | Form::Luti4s => 4,
             Form::Narrow => 5,
-            Form::Dup => 6,
+            Form::Psel => 6,
         }
     }
 }
@@ -101,13 +102,17 @@ pub enum Instruction {
         counter: u32,
         pd: u32,
     },
-    Dup {
+    /// Document 02, request 2. Document 01 calls the word DUP and its fields
+    /// Pg (here Pn), Pn (here Pm) and Rm (here Rv, which gives the index).
+    Psel {
         size: u32,
         offset: u32,
         /// the index register, W12 to W15
         index: u32,
-        pg: u32,
+        /// copied whole
         pn: u32,
+        /// supplies the element at the index
+        pm: u32,
         pd: u32,
     },
     Luti4c {
@@ -140,7 +145,7 @@ impl Instruction {
         match self {
             Instruction::Pext1 { .. } => Form::Pext1,
             Instruction::Pext2 { .. } => Form::Pext2,
-            Instruction::Dup { .. } => Form::Dup,
+            Instruction::Psel { .. } => Form::Psel,
             Instruction::Luti4c { .. } => Form::Luti4c,
             Instruction::Luti4s { .. } => Form::Luti4s,
             Instruction::Narrow { .. } => Form::Narrow,
@@ -174,14 +179,14 @@ impl Instruction {
                 counter,
                 pd,
             } => [size, i1, counter, pd, 0, 0],
-            Instruction::Dup {
+            Instruction::Psel {
                 size,
                 offset,
                 index,
-                pg,
                 pn,
+                pm,
                 pd,
-            } => [size, offset, index, pg, pn, pd],
+            } => [size, offset, index, pn, pm, pd],
             Instruction::Luti4c { size, i1, zn, zd } => [size, i1, zn, zd, 0, 0],
             Instruction::Luti4s { size, i1, zn, zd } => [size, i1, zn, zd, 0, 0],
             Instruction::Narrow {
@@ -210,12 +215,12 @@ impl Instruction {
                 counter: c,
                 pd: d,
             },
-            Form::Dup => Instruction::Dup {
+            Form::Psel => Instruction::Psel {
                 size: a,
                 offset: b,
                 index: c,
-                pg: d,
-                pn: e,
+                pn: d,
+                pm: e,
                 pd: f,
             },
             Form::Luti4c => Instruction::Luti4c {

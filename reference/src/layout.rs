@@ -20,7 +20,7 @@ impl Layout {
 ///
 /// - PEXT1:    00100101 ss 100000 01110 0 ii nnn 1 dddd
 /// - PEXT2:    00100101 ss 100000 01110 10 i nnn 1 dddd
-/// - DUP:      00100101 i h 1 lll mm 01 gggg 0 nnnn 0 dddd
+/// - PSEL:     00100101 i h 1 lll vv 01 nnnn 0 mmmm 0 dddd
 /// - LUTI4C:   11000000 10001 01 i 10 ss 00 nnnnn ddd 00
 /// - LUTI4S:   11000000 10011 01 i 10 ss 00 nnnnn D 00 dd
 /// - NARROW:   01000101 0 h 1 ll iii 00 o U R T nnnnn ddddd
@@ -36,7 +36,7 @@ pub const LAYOUTS: [Layout; 6] = [
         value: 0x2520_7410,
     },
     Layout {
-        form: Form::Dup,
+        form: Form::Psel,
         mask: 0xff20_c210,
         value: 0x2520_4000,
     },
@@ -61,7 +61,7 @@ pub fn layout_of(form: Form) -> &'static Layout {
     match form {
         Form::Pext1 => &LAYOUTS[0],
         Form::Pext2 => &LAYOUTS[1],
-        Form::Dup => &LAYOUTS[2],
+        Form::Psel => &LAYOUTS[2],
         Form::Luti4c => &LAYOUTS[3],
         Form::Luti4s => &LAYOUTS[4],
         Form::Narrow => &LAYOUTS[5],
@@ -81,7 +81,8 @@ pub fn form_by_fixed_bits(word: u32) -> Option<Form> {
 pub fn has_features(form: Form, setting: Setting) -> bool {
     match form {
         Form::Pext1 | Form::Pext2 => setting.has(SME2) || setting.has(SVE2P1),
-        Form::Dup => setting.has(SME),
+        // document 02, request 2
+        Form::Psel => setting.has(SME) || setting.has(SVE2P1),
         Form::Luti4c => setting.has(SME2),
         Form::Luti4s => setting.has(SME2P1),
         Form::Narrow => setting.has(SVE2) || setting.has(SME),
@@ -93,7 +94,7 @@ pub fn has_field_condition(form: Form, word: u32) -> bool {
     match form {
         Form::Pext1 | Form::Pext2 => true,
         // tszh:tszl not 0000: bit 22 and bits 20 to 18
-        Form::Dup => word & 0x005c_0000 != 0,
+        Form::Psel => word & 0x005c_0000 != 0,
         // size, bits 13 and 12, is 01 or 10
         Form::Luti4c => word & 0x3000 == 0x1000 || word & 0x3000 == 0x2000,
         // size is 01
@@ -116,14 +117,15 @@ mod tests {
         }
     }
 
-    /// Document 01's table, letter for letter, with the last row as request 1
-    /// has it: 0 and 1 are fixed, every other letter is a bit of a field.
+    /// Document 01's table, letter for letter, with the third row's letters as
+    /// request 2 has them and the last row as request 1 has it: 0 and 1 are
+    /// fixed, every other letter is a bit of a field.
     #[test]
     fn masks_and_values_agree_with_the_printed_rows() {
         let rows = [
             "00100101 ss 10000001110 0 ii nnn 1 dddd",
             "00100101 ss 10000001110 1 0 i nnn 1 dddd",
-            "00100101 i h 1 lll mm 01 gggg 0 nnnn 0 dddd",
+            "00100101 i h 1 lll vv 01 nnnn 0 mmmm 0 dddd",
             "1100000010001 01 i 10 ss 00 nnnnn ddd 00",
             "1100000010011 01 i 10 ss 00 nnnnn D 00 dd",
             "010001010 h 1 ll iii 00 oURT nnnnn ddddd",

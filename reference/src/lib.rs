@@ -1,8 +1,8 @@
 //! # Reference program
 //!
 //! An independent second program for the words of document 01 (`01-scope.md`),
-//! with requests 1 and 3 of document 02 (`02-change-requests.md`): the whole
-//! narrowing family, and no answer is 7.
+//! with requests 1 to 3 of document 02 (`02-change-requests.md`): the whole
+//! narrowing family, PSEL, and no answer is 7.
 //! It was written from the documents alone (01, 02, the source documents 000
 //! to 004 and the list of readings of doubtful points), by a hand that had not
 //! seen the proved library, so that the two can be compared. Nothing here is

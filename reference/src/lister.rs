@@ -82,6 +82,14 @@ mod tests {
         assert_eq!(list(&input), text);
     }
 
+    /// Document 02, request 2: point 10's words, and one without a size.
+    #[test]
+    fn name_of_psel() {
+        assert_eq!(list(&0x252c_4000u32.to_le_bytes()), b"252c4000 PSEL\n");
+        assert_eq!(name(0x25e0_4000), "PSEL");
+        assert_eq!(name(0x25a0_4000), "UNDEFINED");
+    }
+
     /// Request 1's names, and none longer than UNDEFINED.
     #[test]
     fn names_of_the_family() {

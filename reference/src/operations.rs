@@ -1,8 +1,9 @@
 //! What the words compute, on rows of bits; nothing here knows the machine.
 //!
-//! Each function is its paragraph of document 01 in loops; the narrowing
-//! family has a page of its own, `narrow`. Sizes, portions
-//! and shifts are those of a decoded instruction and so are in range.
+//! Each function is its paragraph of document 01 in loops, PSEL's that of
+//! document 02, request 2; the narrowing family has a page of its own,
+//! `narrow`. Sizes, portions and shifts are those of a decoded instruction and
+//! so are in range.
 
 use crate::bits::{element, set_element};
 use crate::counter::Counter;
@@ -20,11 +21,11 @@ pub fn pext(counter: Counter, size: u32, portion: u32, vl: u32) -> Vec<bool> {
     result
 }
 
-/// The indexed element of `source` in every element that is true in
-/// `governing`.
-pub fn dup(
-    governing: &[bool],
-    source: &[bool],
+/// All PL bits of `copied`, where the indexed element of `chooser` is true;
+/// else PL zeros.
+pub fn psel(
+    copied: &[bool],
+    chooser: &[bool],
     base: u32,
     offset: u32,
     size: u32,
@@ -33,13 +34,11 @@ pub fn dup(
     let elements = vl / size;
     // A sum of whole numbers, which 32 bits need not hold.
     let index = (u128::from(base) + u128::from(offset)) % u128::from(elements);
-    let value = source[index as usize * size as usize / 8];
-    let mut result = vec![false; vl as usize / 8];
-    for e in 0..elements {
-        let bit = (e * size / 8) as usize;
-        if governing[bit] {
-            result[bit] = value;
-        }
+    let chosen = chooser[index as usize * size as usize / 8];
+    let mut result = Vec::new();
+    // Every bit, also those between elements.
+    for &bit in copied {
+        result.push(chosen && bit);
     }
     result
 }
@@ -73,7 +72,59 @@ pub fn luti4(indexes: &[bool], table: &[bool], size: u32, i1: u32, vl: u32) -> V
 #[cfg(test)]
 mod tests {
     use super::*;
+    use crate::bits::read;
     use crate::setting::VECTOR_LENGTHS;
+
+    /// The sixteen bits of a P register at VL 128.
+    fn row(bits: u16) -> Vec<bool> {
+        read(&bits.to_le_bytes(), 16)
+    }
+
+    /// Size 64, element 1: bit 8 decides, and no bit beside it.
+    #[test]
+    fn psel_copies_every_bit_or_clears_every_bit() {
+        for copied in [0xffff, 0xfefe, 0x0101, 0x8421, 0] {
+            for chooser in [0x0100, 0xffff, 0x0180, 0x8100] {
+                let result = psel(&row(copied), &row(chooser), 1, 0, 64, 128);
+                assert_eq!(result, row(copied), "{copied:04x} {chooser:04x}");
+            }
+            for chooser in [0, 0xfeff, 0xfefe, 0x0001, 0x0200] {
+                let result = psel(&row(copied), &row(chooser), 1, 0, 64, 128);
+                assert_eq!(result, row(0), "{copied:04x} {chooser:04x}");
+            }
+        }
+    }
+
+    /// A chooser true, or false, at one element alone tells which is read.
+    #[test]
+    fn psel_reads_at_the_wrapped_sum() {
+        for vl in VECTOR_LENGTHS {
+            for size in [8, 16, 32, 64] {
+                let elements = vl / size;
+                let most = 128 / size - 1;
+                for (base, offset, index) in [
+                    (0, 0, 0),
+                    (0, most, most),
+                    (elements - 1, 0, elements - 1),
+                    (elements - 1, 1, 0),
+                    (elements, most, most),
+                    (u32::MAX, 0, elements - 1),
+                    (u32::MAX, 1, 0),
+                    (u32::MAX, most, most - 1),
+                    (u32::MAX - most, most, elements - 1),
+                    (u32::MAX - most + 1, most, 0),
+                ] {
+                    let all = vec![true; vl as usize / 8];
+                    for alone in [true, false] {
+                        let mut chooser = vec![!alone; vl as usize / 8];
+                        chooser[(index * size / 8) as usize] = alone;
+                        let result = psel(&all, &chooser, base, offset, size, vl);
+                        assert_eq!(result, vec![alone; vl as usize / 8], "{base:x} {offset}");
+                    }
+                }
+            }
+        }
+    }
 
     /// Document 02, request 3, by trying all of it: no index lies past the
     /// source's end, and for each size and length one is the source's last.

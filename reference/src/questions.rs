@@ -6,6 +6,7 @@
 //! twice is kept once.
 
 mod family;
+mod psel;
 
 use crate::instruction::Form;
 use crate::once::Once;
@@ -38,6 +39,7 @@ pub fn generate(seed: u64) -> Vec<Question> {
     list.fields_in_range();
     list.family();
     list.retired();
+    list.psel();
     list.questions.into_list()
 }
 
@@ -211,7 +213,7 @@ impl List {
         for form in Form::ALL {
             for place in 0..form.field_count() {
                 let by_size: &[u32] = match (form, place) {
-                    (Form::Dup, 1) => &[8, 16, 32, 64],
+                    (Form::Psel, 1) => &[8, 16, 32, 64],
                     (Form::Narrow, 2) => &[8, 16, 32],
                     _ => &[],
                 };
@@ -236,7 +238,7 @@ impl List {
             // The field after the size must be in range whatever the size is,
             // so that only the size decides.
             match (form, place) {
-                (Form::Dup, 0) => fields[1] = self.random.below(2),
+                (Form::Psel, 0) => fields[1] = self.random.below(2),
                 (Form::Narrow, 1) => fields[2] = 1 + self.random.below(8),
                 _ => {}
             }
@@ -245,16 +247,16 @@ impl List {
         }
     }
 
-    /// DUP's offset and the narrowing words' shift at every value for every size, and
+    /// PSEL's offset and the narrowing words' shift at every value for every size, and
     /// one too far at each end.
     fn every_immediate(&mut self) {
         for size in [8, 16, 32, 64] {
             for offset in 0..=128 / size {
                 let setting = self.all_features();
-                let mut fields = samples::fields_in_range(&mut self.random, Form::Dup);
+                let mut fields = samples::fields_in_range(&mut self.random, Form::Psel);
                 fields[0] = size;
                 fields[1] = offset;
-                self.encode(setting, Form::Dup, fields);
+                self.encode(setting, Form::Psel, fields);
             }
         }
         for size in [8, 16, 32] {

@@ -29,14 +29,14 @@ pub const PREDICATES_WRITTEN: [Role; 4] = [
     role(Form::Pext1, 3, 0),
     role(Form::Pext2, 3, 0),
     role(Form::Pext2, 3, 1),
-    role(Form::Dup, 5, 0),
+    role(Form::Psel, 5, 0),
 ];
 
 pub const PREDICATES_READ: [Role; 4] = [
     role(Form::Pext1, 2, 0),
     role(Form::Pext2, 2, 0),
-    role(Form::Dup, 3, 0),
-    role(Form::Dup, 4, 0),
+    role(Form::Psel, 3, 0),
+    role(Form::Psel, 4, 0),
 ];
 
 pub const VECTORS_WRITTEN: [Role; 9] = [
@@ -57,9 +57,14 @@ pub const VECTORS_READ: [Role; 3] = [
     role(Form::Narrow, 3, 0),
 ];
 
-/// PEXT1, PEXT2 and DUP touch only predicates, the others only vectors.
-pub const PREDICATE_FORMS: [Form; 3] = [Form::Pext1, Form::Pext2, Form::Dup];
+/// PEXT1, PEXT2 and PSEL touch only predicates, the others only vectors.
+pub const PREDICATE_FORMS: [Form; 3] = [Form::Pext1, Form::Pext2, Form::Psel];
 pub const VECTOR_FORMS: [Form; 3] = [Form::Luti4c, Form::Luti4s, Form::Narrow];
+
+/// The word of a form with fields in range.
+pub fn word_of(form: Form, fields: [u32; 6]) -> u32 {
+    encode(FULL, Instruction::from_fields(form, fields)).expect("the fields are in range")
+}
 
 /// A word in which the register has the role, if it can have it.
 pub fn word_with(random: &mut Random, role: Role, register: u32) -> Option<u32> {
@@ -99,19 +104,19 @@ fn share_another(a: Role, first: u32, b: Role, second: u32, register: u32) -> bo
         match role.form {
             Form::Pext1 | Form::Narrow => vec![written],
             Form::Pext2 => vec![written, (written + 1) % 16],
-            Form::Dup => vec![fields[3], fields[4], written],
+            Form::Psel => vec![fields[3], fields[4], written],
             Form::Luti4c => (0..4).map(|r| written + r).collect(),
             Form::Luti4s => (0..4).map(|r| written + 4 * r).collect(),
         }
     };
     let mut of_first = others(a, first);
     let mut of_second = others(b, second);
-    // DUP lists what it reads too, the shared register among it; that is
+    // PSEL lists what it reads too, the shared register among it; that is
     // left out once, so that it still counts where it is written.
-    if a.form == Form::Dup {
+    if a.form == Form::Psel {
         of_first.remove(a.field - 3);
     }
-    if b.form == Form::Dup {
+    if b.form == Form::Psel {
         of_second.remove(b.field - 3);
     }
     of_first.contains(&register)

@@ -18,7 +18,9 @@ use crate::samples::{matching_word, near_miss};
 use crate::setting::{ALL_FEATURES, Setting, VECTOR_LENGTHS, features_are_allowed};
 use crate::start::Start;
 use crate::stretches::{any_stretch, stretch_of};
-use crate::values::{FEATURES_ABOVE, FEATURES_FOR_FLAGS, LENGTHS_NOT_ALLOWED, PCS_OF_NOTE};
+use crate::values::{
+    FEATURES_ABOVE, FEATURES_FOR_FLAGS, FEATURES_FOR_PSEL, LENGTHS_NOT_ALLOWED, PCS_OF_NOTE,
+};
 
 pub fn generate(seed: u64) -> Vec<RunQuestion> {
     let mut random = Random::new(seed);
@@ -41,6 +43,7 @@ pub fn generate(seed: u64) -> Vec<RunQuestion> {
     list.lengths_not_allowed();
     list.wrong_files();
     list.competing_refusals();
+    list.psel();
     list.questions.into_list()
 }
 
@@ -303,6 +306,21 @@ impl List {
                 words[0] = near_miss(&mut self.random);
             }
             self.add(start, words);
+        }
+    }
+
+    /// PSEL before and after a narrowing word, under the feature numbers it
+    /// hangs on, with only V open and with only V closed.
+    fn psel(&mut self) {
+        for features in FEATURES_FOR_PSEL {
+            for number in [1, 6] {
+                for forms in [[Form::Psel, Form::Narrow], [Form::Narrow, Form::Psel]] {
+                    let mut start = self.start(features);
+                    start.flags = Flags::from_number(number).expect("three bits");
+                    let words = forms.map(|form| matching_word(&mut self.random, form));
+                    self.add(start, words.to_vec());
+                }
+            }
         }
     }
 }

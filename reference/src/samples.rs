@@ -9,14 +9,14 @@ use crate::layout::{has_field_condition, layout_of};
 use crate::random::Random;
 use crate::setting::FULL;
 
-/// The bits of each field of a form in the word. DUP's size and offset share
+/// The bits of each field of a form in the word. PSEL's size and offset share
 /// theirs, as do the narrowing words' size and shift, and LUTI4S has its destination in
 /// two pieces.
 pub fn field_masks(form: Form) -> &'static [u32] {
     match form {
         Form::Pext1 => &[0x00c0_0000, 0x300, 0xe0, 0xf],
         Form::Pext2 => &[0x00c0_0000, 0x100, 0xe0, 0xf],
-        Form::Dup => &[0x00dc_0000, 0x0003_0000, 0x3c00, 0x1e0, 0xf],
+        Form::Psel => &[0x00dc_0000, 0x0003_0000, 0x3c00, 0x1e0, 0xf],
         Form::Luti4c => &[0x0001_0000, 0x3000, 0x3e0, 0x1c],
         Form::Luti4s => &[0x0001_0000, 0x3000, 0x3e0, 0x13],
         Form::Narrow => &[0x3c00, 0x005f_0000, 0x3e0, 0x1f],
@@ -27,7 +27,7 @@ pub fn field_masks(form: Form) -> &'static [u32] {
 pub fn failing_conditions(form: Form) -> (u32, &'static [u32]) {
     match form {
         Form::Pext1 | Form::Pext2 => (0, &[]),
-        Form::Dup => (0x005c_0000, &[0]),
+        Form::Psel => (0x005c_0000, &[0]),
         Form::Luti4c => (0x3000, &[0x0000, 0x3000]),
         Form::Luti4s => (0x3000, &[0x0000, 0x2000, 0x3000]),
         Form::Narrow => (0x0058_0000, &[0]),
@@ -49,6 +49,12 @@ pub fn matching_word(random: &mut Random, form: Form) -> u32 {
 /// that of no size.
 pub fn narrow_word(bits: u32, amount: u32, zn: u32, zd: u32) -> u32 {
     0x4520_0000 | bits << 10 | spread(amount, 0x005f_0000) | zn << 5 | zd
+}
+
+/// The PSEL word with this i1:tszh:tszl, which may be that of no size, this
+/// Rv, and these registers.
+pub fn psel_word(imm: u32, rv: u32, pn: u32, pm: u32, pd: u32) -> u32 {
+    0x2520_4000 | spread(imm, 0x00dc_0000) | rv << 16 | pn << 10 | pm << 5 | pd
 }
 
 /// A word with the form's fixed bits, failing its field condition; none for
@@ -110,7 +116,7 @@ pub fn fields_in_range(random: &mut Random, form: Form) -> [u32; 6] {
             0,
             0,
         ],
-        Form::Dup => {
+        Form::Psel => {
             let size = random.pick(&[8, 16, 32, 64]);
             [
                 size,
@@ -160,7 +166,7 @@ pub fn values_outside(form: Form, place: usize) -> &'static [u32] {
     let by_place: [&[u32]; 6] = match form {
         Form::Pext1 => [ELEMENT_SIZE, &[4, 5, 7], COUNTER, PREDICATE, &[], &[]],
         Form::Pext2 => [ELEMENT_SIZE, &[2, 3], COUNTER, PREDICATE, &[], &[]],
-        Form::Dup => [
+        Form::Psel => [
             ELEMENT_SIZE,
             &[16, 17, 31],
             &[0, 3, 11, 16],
@@ -296,6 +302,15 @@ mod tests {
         assert_eq!(narrow_word(14, 2 * 32 - 1, 0, 0), 0x457f_3800);
         assert_eq!(narrow_word(14, 0, 0, 0), 0x4520_3800);
         assert_eq!(narrow_word(9, 2 * 16 - 5, 31, 2), 0x453b_27e2);
+    }
+
+    /// Document 01's point 10, and one with a number in every field.
+    #[test]
+    fn psel_words_by_hand() {
+        assert_eq!(psel_word(0b00011, 0, 0, 0, 0), 0x252c_4000);
+        assert_eq!(psel_word(0b11000, 0, 0, 0, 0), 0x25e0_4000);
+        assert_eq!(psel_word(0, 0, 0, 0, 0), 0x2520_4000);
+        assert_eq!(psel_word(0b10110, 3, 15, 1, 2), 0x25bb_7c22);
     }
 
     #[test]

@@ -11,6 +11,9 @@ pub const SME2P1: u32 = 1 << 4;
 
 pub const ALL_FEATURES: u32 = 31;
 
+/// SVE2p1, with the SVE2 it needs and nothing else.
+pub const WITHOUT_SME: u32 = SVE2 | SVE2P1;
+
 pub const VECTOR_LENGTHS: [u32; 5] = [128, 256, 512, 1024, 2048];
 
 #[derive(Clone, Copy, Debug, PartialEq, Eq, Hash)]

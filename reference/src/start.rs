@@ -56,9 +56,9 @@ impl Start {
         }
     }
 
-    /// Chooses the low 16 bits of a P register.
-    pub fn set_predicate(&mut self, register: u32, value: u16) {
-        self.contents.p_at = register * P_SLOT_BYTES as u32;
+    /// Chooses the 16 bits from a byte of a P register.
+    pub fn set_predicate(&mut self, register: u32, byte: u32, value: u16) {
+        self.contents.p_at = register * P_SLOT_BYTES as u32 + byte;
         self.contents.p_value = value;
     }
 

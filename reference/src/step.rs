@@ -6,7 +6,7 @@ use crate::decode::decode;
 use crate::instruction::Instruction;
 use crate::machine::Machine;
 use crate::narrow::narrow;
-use crate::operations::{dup, luti4, pext};
+use crate::operations::{luti4, pext, psel};
 use crate::refusal::Refusal;
 use crate::setting::Setting;
 
@@ -64,18 +64,17 @@ fn execute(instruction: Instruction, vl: u32, machine: &Machine) -> Vec<Written>
                 Written::Predicate((pd + 1) % 16, second),
             ]
         }
-        Instruction::Dup {
+        Instruction::Psel {
             size,
             offset,
             index,
-            pg,
             pn,
+            pm,
             pd,
         } => {
-            let governing = machine.predicate(pg, vl);
-            let source = machine.predicate(pn, vl);
+            let (copied, chooser) = (machine.predicate(pn, vl), machine.predicate(pm, vl));
             let base = machine.index_register(index);
-            let result = dup(&governing, &source, base, offset, size, vl);
+            let result = psel(&copied, &chooser, base, offset, size, vl);
             vec![Written::Predicate(pd, result)]
         }
         Instruction::Luti4c { size, i1, zn, zd } => {

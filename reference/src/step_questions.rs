@@ -8,15 +8,16 @@ mod counters;
 mod elements;
 mod forms;
 mod overlaps;
+mod psel;
 mod refusals;
 
-use crate::encode::encode;
-use crate::instruction::{Form, Instruction};
-use crate::machine::Z_SLOT_BYTES;
+use crate::instruction::Form;
+use crate::machine::{Flags, P_SLOT_BYTES, Z_FILE_BYTES, Z_SLOT_BYTES};
 use crate::once::Once;
 use crate::random::Random;
+use crate::roles::word_of;
 use crate::samples;
-use crate::setting::{ALL_FEATURES, FULL, Setting, VECTOR_LENGTHS};
+use crate::setting::{ALL_FEATURES, Setting, VECTOR_LENGTHS};
 use crate::start::Start;
 use crate::step_question::StepQuestion;
 
@@ -30,6 +31,7 @@ pub fn generate(seed: u64) -> Vec<StepQuestion> {
     list.elements();
     list.overlaps();
     list.refusals();
+    list.psel();
     list.questions.into_list()
 }
 
@@ -77,16 +79,19 @@ impl List {
     }
 }
 
-/// The word of a form with fields in range.
-fn word_of(form: Form, fields: [u32; 6]) -> u32 {
-    let instruction = Instruction::from_fields(form, fields);
-    encode(FULL, instruction).expect("the fields are in range")
+fn flags(number: u32) -> Flags {
+    Flags::from_number(number).expect("three bits")
 }
 
 impl StepQuestion {
     /// With the low 16 bits of a P register chosen.
-    fn with_predicate(mut self, register: u32, value: u16) -> StepQuestion {
-        self.start.set_predicate(register, value);
+    fn with_predicate(self, register: u32, value: u16) -> StepQuestion {
+        self.with_predicate_at(register, 0, value)
+    }
+
+    /// With the 16 bits from a byte of a P register chosen.
+    fn with_predicate_at(mut self, register: u32, byte: u32, value: u16) -> StepQuestion {
+        self.start.set_predicate(register, byte, value);
         self
     }
 
@@ -96,10 +101,21 @@ impl StepQuestion {
         self
     }
 
-    /// With a 64-bit element of a Z register chosen, by a seed that gives it.
-    fn with_wide_element(mut self, register: u32, element: u32, value: u64) -> StepQuestion {
-        let place = register * Z_SLOT_BYTES as u32 / 8 + element;
-        self.start.contents.seed = Random::seed_for(value, u64::from(place));
+    /// With a 64-bit element of a Z register chosen.
+    fn with_wide_element(self, register: u32, element: u32, value: u64) -> StepQuestion {
+        self.with_eight_bytes(register * Z_SLOT_BYTES as u32 + 8 * element, value)
+    }
+
+    /// With the 64 bits of one of a P register's four parts chosen.
+    fn with_wide_predicate(self, register: u32, part: u32, value: u64) -> StepQuestion {
+        // One stream fills the Z file and then the P file.
+        let slot = Z_FILE_BYTES as u32 + register * P_SLOT_BYTES as u32;
+        self.with_eight_bytes(slot + 8 * part, value)
+    }
+
+    /// With eight bytes of the files chosen, by a seed that gives them.
+    fn with_eight_bytes(mut self, byte: u32, value: u64) -> StepQuestion {
+        self.start.contents.seed = Random::seed_for(value, u64::from(byte / 8));
         self
     }
 }
@@ -130,5 +146,9 @@ mod tests {
             .start
             .machine();
         assert_eq!(machine.z[7704..7712], (u64::MAX - 1).to_le_bytes());
+        let question = question.with_wide_predicate(15, 3, u64::MAX - 2);
+        let machine = question.with_predicate_at(14, 30, 0x8421).start.machine();
+        assert_eq!(machine.p[504..], (u64::MAX - 2).to_le_bytes());
+        assert_eq!(machine.p[478..480], [0x21, 0x84]);
     }
 }

@@ -198,7 +198,7 @@ pub fn read_question(line: &[u8]) -> Result<Question, String> {
 /// The kind of a question about encode of a form.
 fn encode_kind(form: Form) -> u32 {
     match form {
-        Form::Pext1 | Form::Pext2 | Form::Dup | Form::Luti4c | Form::Luti4s => form.number(),
+        Form::Pext1 | Form::Pext2 | Form::Psel | Form::Luti4c | Form::Luti4s => form.number(),
         Form::Narrow => NARROW_KIND,
     }
 }
@@ -309,7 +309,7 @@ mod tests {
                 vl: 128,
                 features: 31,
             },
-            form: Form::Dup,
+            form: Form::Psel,
             fields: [64, 1, 12, 0, 0, u32::MAX],
         };
         assert_eq!(question, expected);

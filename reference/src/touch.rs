@@ -34,10 +34,10 @@ pub fn touch(instruction: Instruction) -> Touch {
             reads: vec![P(counter)],
             writes: vec![P(pd), P((pd + 1) % 16)],
         },
-        Instruction::Dup {
-            index, pg, pn, pd, ..
+        Instruction::Psel {
+            index, pn, pm, pd, ..
         } => Touch {
-            reads: vec![P(pg), P(pn), W(index)],
+            reads: vec![P(pn), P(pm), W(index)],
             writes: vec![P(pd)],
         },
         Instruction::Luti4c { zn, zd, .. } => Touch {
@@ -114,12 +114,12 @@ mod tests {
 
     #[test]
     fn readers_alone_do_not_conflict() {
-        // Counter P9, governing P9, source P9; all destinations apart.
+        // Counter P9, Pn and Pm P9; all destinations apart.
         let pext = word(Form::Pext1, [8, 0, 9, 1, 0, 0]);
-        let dup = word(Form::Dup, [8, 0, 12, 9, 9, 2]);
-        let other_dup = word(Form::Dup, [16, 1, 12, 9, 9, 3]);
-        assert_eq!(conflict(FULL, pext, dup), Ok(false));
-        assert_eq!(conflict(FULL, dup, other_dup), Ok(false));
+        let psel = word(Form::Psel, [8, 0, 12, 9, 9, 2]);
+        let other_psel = word(Form::Psel, [16, 1, 12, 9, 9, 3]);
+        assert_eq!(conflict(FULL, pext, psel), Ok(false));
+        assert_eq!(conflict(FULL, psel, other_psel), Ok(false));
         // Z30 and ZT0 are only read.
         let lookup = word(Form::Luti4c, [16, 0, 30, 0, 0, 0]);
         let other_lookup = word(Form::Luti4c, [32, 1, 30, 4, 0, 0]);
@@ -129,8 +129,8 @@ mod tests {
     #[test]
     fn z3_is_not_p3() {
         let narrow = word(Form::Narrow, [14, 8, 1, 3, 3, 0]);
-        let dup = word(Form::Dup, [8, 0, 12, 3, 3, 3]);
-        assert_eq!(conflict(FULL, narrow, dup), Ok(false));
+        let psel = word(Form::Psel, [8, 0, 12, 3, 3, 3]);
+        assert_eq!(conflict(FULL, narrow, psel), Ok(false));
         assert_eq!(conflict(FULL, narrow, narrow), Ok(true));
     }
 

@@ -50,6 +50,10 @@ pub const LENGTHS_NOT_ALLOWED: [u32; 20] = [
 /// without SVE2p1, SME, SME2 and SME2p1.
 pub const FEATURES_FOR_FLAGS: [u32; 7] = [3, 4, 7, 12, 28, 29, 31];
 
+/// The feature numbers that differ in SVE2p1 and SME, on which PSEL hangs:
+/// SVE2 alone, with SVE2p1, SME alone, with SVE2, and all three.
+pub const FEATURES_FOR_PSEL: [u32; 5] = [1, 3, 4, 5, 7];
+
 /// Values of PC at the wrap, at halves' ends and off the multiples of 4.
 pub const PCS_OF_NOTE: [u64; 14] = [
     0,

@@ -81,7 +81,7 @@ fn every_answer_and_every_pair_of_forms() {
                     .filter(|pair| pair.3[0] == 0 && form(pair.1) == Ok(a) && form(pair.2) == Ok(b))
                     .map(|pair| pair.3[1])
                     .collect();
-                let predicates = |form| matches!(form, Form::Pext1 | Form::Pext2 | Form::Dup);
+                let predicates = |form| matches!(form, Form::Pext1 | Form::Pext2 | Form::Psel);
                 let expected: &[u32] = if predicates(a) == predicates(b) {
                     &[0, 1]
                 } else {
@@ -123,6 +123,45 @@ fn every_pair_of_narrowing_words() {
     }
 }
 
+/// PSEL with SVE2p1 alone: both answers beside the forms of predicates, by each
+/// of its registers; refused beside a lookup, and with SVE2 alone.
+#[test]
+fn psel_without_sme() {
+    for seed in SEEDS {
+        let mut asked = HashSet::new();
+        let mut met = HashSet::new();
+        for (setting, first, second, answer) in pairs(seed) {
+            let [first_form, form] = [first, second].map(|word| decode(FULL, word));
+            let (Ok(Instruction::Psel { pn, pm, pd, .. }), Ok(form)) = (first_form, form) else {
+                continue;
+            };
+            asked.insert((setting.features, form.form(), answer));
+            let (_, written) = masks(second);
+            for (role, register) in [("Pn", pn), ("Pm", pm), ("Pd", pd)] {
+                if setting.features == 3 && written >> (32 + register) & 1 == 1 {
+                    met.insert((role, form.form()));
+                }
+            }
+        }
+        for form in Form::ALL {
+            let expected: &[[u32; 2]] = match form {
+                Form::Pext1 | Form::Pext2 | Form::Psel => &[[0, 0], [0, 1]],
+                Form::Narrow => &[[0, 0]],
+                Form::Luti4c | Form::Luti4s => &[[3, 0]],
+            };
+            for &answer in expected {
+                assert!(asked.contains(&(3, form, answer)), "{form:?} {answer:?}");
+            }
+            assert!(asked.contains(&(1, form, [3, 0])), "{form:?}");
+        }
+        assert_eq!(met.len(), 3 * 3, "{met:?}");
+        for features in [3, 4, 5, 7] {
+            let read = |&(f, _, answer): &(u32, Form, [u32; 2])| f == features && answer[0] == 0;
+            assert!(asked.iter().any(read), "{features}");
+        }
+    }
+}
+
 /// Registers shared by readers only, and the pair that goes around.
 #[test]
 fn shared_reads_and_the_wrap() {
@@ -144,7 +183,7 @@ fn shared_reads_and_the_wrap() {
                     *count += (first_reads & second_reads) >> register & 1;
                 }
                 same_w +=
-                    usize::from(forms == [Form::Dup; 2] && first >> 16 & 3 == second >> 16 & 3);
+                    usize::from(forms == [Form::Psel; 2] && first >> 16 & 3 == second >> 16 & 3);
                 both_lookups += usize::from(
                     forms
                         .iter()

@@ -197,15 +197,15 @@ fn ends_of_every_field() {
         (Pext2, 1, i1, None),
         (Pext2, 2, counter, None),
         (Pext2, 3, predicate, None),
-        (Dup, 0, element_sizes, None),
-        (Dup, 1, (&[0, 15], &[16, 17, 256, 65536]), Some(8)),
-        (Dup, 1, (&[0, 7], &[8, 9, 256, 65536]), Some(16)),
-        (Dup, 1, (&[0, 3], &[4, 5, 256, 65536]), Some(32)),
-        (Dup, 1, (&[0, 1], &[2, 3, 256, 65536]), Some(64)),
-        (Dup, 2, (&[12, 13, 15], &[0, 11, 16, 268, 65548]), None),
-        (Dup, 3, predicate, None),
-        (Dup, 4, predicate, None),
-        (Dup, 5, predicate, None),
+        (Psel, 0, element_sizes, None),
+        (Psel, 1, (&[0, 15], &[16, 17, 256, 65536]), Some(8)),
+        (Psel, 1, (&[0, 7], &[8, 9, 256, 65536]), Some(16)),
+        (Psel, 1, (&[0, 3], &[4, 5, 256, 65536]), Some(32)),
+        (Psel, 1, (&[0, 1], &[2, 3, 256, 65536]), Some(64)),
+        (Psel, 2, (&[12, 13, 15], &[0, 11, 16, 268, 65548]), None),
+        (Psel, 3, predicate, None),
+        (Psel, 4, predicate, None),
+        (Psel, 5, predicate, None),
         (Luti4c, 0, (&[16, 32], &[0, 8, 64, 272, 65552]), None),
         (Luti4c, 1, i1, None),
         (Luti4c, 2, vector, None),
@@ -310,6 +310,51 @@ fn every_narrowing_word() {
         }
         for bits in [16, 31, u32::MAX] {
             assert!(written.iter().any(|fields| fields[0] == bits));
+        }
+    }
+}
+
+/// PSEL under the feature numbers that differ in SVE2p1 and SME, on which it
+/// hangs by document 02, request 2: every size and offset read, no size, and
+/// every size written.
+#[test]
+fn psel_under_every_feature_it_hangs_on() {
+    for seed in SEEDS {
+        let questions = generate(seed);
+        for (features, number) in [(1, 3), (3, 0), (4, 0), (5, 0), (7, 0)] {
+            let here = |setting: Setting| setting.features == features && vl_is_allowed(setting.vl);
+            let mut read = HashSet::new();
+            let mut without_size = HashSet::new();
+            for (setting, word) in decodes(&questions) {
+                if !here(setting) || form_by_fixed_bits(word) != Some(Form::Psel) {
+                    continue;
+                }
+                let answer = Question::Decode { setting, word }.answer();
+                match decode(FULL, word) {
+                    Ok(found) => {
+                        let [size, offset, ..] = found.fields();
+                        read.insert((size, offset));
+                        assert_eq!(answer[0], number, "{features} {word:08x}");
+                    }
+                    Err(_) => {
+                        without_size.insert(word >> 23 & 1);
+                        assert_eq!(answer[0], 3, "{features} {word:08x}");
+                    }
+                }
+            }
+            assert_eq!(read.len(), 16 + 8 + 4 + 2);
+            assert_eq!(without_size.len(), 2);
+            for size in [8, 16, 32, 64] {
+                for (offset, number) in [(0, number), (128 / size - 1, number), (128 / size, 9)] {
+                    let asked = numbers(questions.iter().filter(|question| {
+                        matches!(question, Question::Encode { setting, form, fields }
+                            if here(*setting)
+                                && *form == Form::Psel
+                                && fields[..2] == [size, offset])
+                    }));
+                    assert!(asked.contains(&number), "{features} {size} {offset}");
+                }
+            }
         }
     }
 }

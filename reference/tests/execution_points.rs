@@ -1,6 +1,6 @@
-//! Document 01's points 4 to 12, executed, and points 4 and 5 for the whole
-//! narrowing family. What is expected here is taken from the documents, not
-//! from the program.
+//! Document 01's points 4 to 12, executed, points 4 and 5 for the whole
+//! narrowing family and point 10 as PSEL. What is expected here is taken from
+//! the documents, not from the program.
 
 use reference::machine::Machine;
 use reference::setting::{FULL, Setting};
@@ -135,24 +135,55 @@ fn point_9() {
     assert_eq!(portions, [0, 0xffff, 0xffff, 0xffff]);
 }
 
+/// The low 16 bits of Pd after a PSEL of P0, P1 and P2, which hold these,
+/// with W12 as given; the bits above stay, all of them set before.
+fn psel(word: u32, base: u32, registers: [u16; 3]) -> u16 {
+    let mut machine = Machine::zero();
+    machine.w[0] = base;
+    machine.p.fill(0xff);
+    for (k, low) in registers.into_iter().enumerate() {
+        machine.p[32 * k..32 * k + 2].copy_from_slice(&low.to_le_bytes());
+    }
+    let pd = 32 * (word & 15) as usize;
+    let left = after(FULL, word, machine.clone());
+    machine.p[pd..pd + 2].copy_from_slice(&left.p[pd..pd + 2]);
+    machine.pc = 4;
+    assert_eq!(left, machine);
+    u16::from_le_bytes([left.p[pd], left.p[pd + 1]])
+}
+
+/// Point 10 by document 02, request 2.
 #[test]
 fn point_10() {
-    // DUP P0.B, P0/Z, P0.B[W12, 1]: P0 governs and is the source too.
-    for (source, expected) in [(0x7fffu16, 0x7fff), (0x8001, 0x8001), (0xfffe, 0)] {
-        let mut machine = Machine::zero();
-        machine.w[0] = u32::MAX;
-        machine.p[..2].copy_from_slice(&source.to_le_bytes());
-        let machine = after(FULL, 0x252c_4000, machine);
-        let result = u16::from_le_bytes([machine.p[0], machine.p[1]]);
-        assert_eq!(result, expected, "{source:04x}");
+    // PSEL P0, P0, P0.B[W12, 1]: element 0 true, then false.
+    for p0 in [0x0001, 0x8001, 0x7fff, 0xffff] {
+        assert_eq!(psel(0x252c_4000, u32::MAX, [p0, 0, 0]), p0, "{p0:04x}");
     }
-    // Size 64, offset 1: element 1 is bit 8, and only bits 0 and 8 count.
-    for (source, expected) in [(0xffffu16, 0x0101), (0xfeff, 0), (0x0100, 0x0100)] {
-        let mut machine = Machine::zero();
-        machine.p[..2].copy_from_slice(&source.to_le_bytes());
-        let machine = after(FULL, 0x25e0_4000, machine);
-        let result = u16::from_le_bytes([machine.p[0], machine.p[1]]);
-        assert_eq!(result, expected, "{source:04x}");
+    for p0 in [0xfffe, 0x8000, 0x0002] {
+        assert_eq!(psel(0x252c_4000, u32::MAX, [p0, 0, 0]), 0, "{p0:04x}");
+    }
+    // PSEL P0, P0, P0.D[W12, 1]: element 1 is bit 8. Where it is true all
+    // sixteen bits stay, and the bits between elements do not make it true.
+    for p0 in [0x0100, 0xffff, 0xfffe, 0x0180, 0x8142] {
+        assert_eq!(psel(0x25e0_4000, 0, [p0, 0, 0]), p0, "{p0:04x}");
+    }
+    for p0 in [0xfefe, 0xfeff, 0x0080, 0x0200] {
+        assert_eq!(psel(0x25e0_4000, 0, [p0, 0, 0]), 0, "{p0:04x}");
+    }
+    // Element 0 at an odd W12, also where the sum passes 2^32.
+    for base in [1, 3, u32::MAX] {
+        assert_eq!(psel(0x25e0_4000, base, [0x00ff, 0, 0]), 0x00ff);
+        assert_eq!(psel(0x25e0_4000, base, [0xff00, 0, 0]), 0);
+    }
+}
+
+/// PSEL P2, P0, P1.D[W12, 1]: P0 is copied, P1 decides, P2 is lost.
+#[test]
+fn point_10_with_three_registers() {
+    let word = 0x25e0_4022;
+    for p0 in [0, 0x0101, 0xfefe, 0x8421, 0xffff] {
+        assert_eq!(psel(word, 0, [p0, 0x0100, 0x1234]), p0);
+        assert_eq!(psel(word, 0, [p0, 0xfeff, 0x1234]), 0);
     }
 }
 

@@ -1,5 +1,6 @@
-//! Document 01's points on the board, as far as decoding goes. What is
-//! expected here is taken from the document, not from the program.
+//! Document 01's points on the board, as far as decoding goes, with document
+//! 02's requests 1 and 2. What is expected here is taken from the documents,
+//! not from the program.
 
 use reference::decode::decode;
 use reference::encode::encode;
@@ -78,30 +79,51 @@ fn point_3() {
     }
 }
 
+/// The words are PSEL by document 02, request 2.
 #[test]
 fn point_10() {
     // tszh:tszl is 0011, so xxx1: size 8, offset 001.
-    let first = Instruction::Dup {
+    let first = Instruction::Psel {
         size: 8,
         offset: 1,
         index: 12,
-        pg: 0,
         pn: 0,
+        pm: 0,
         pd: 0,
     };
     // Element 0 for W12 = ffffffff: the whole sum, then modulo 16 elements.
     assert_eq!((0xffff_ffffu64 + 1) % 16, 0);
-    assert_eq!(decode(FULL, 0x252c_4000), Ok(first));
-    let second = Instruction::Dup {
+    let second = Instruction::Psel {
         size: 64,
         offset: 1,
         index: 12,
-        pg: 0,
         pn: 0,
+        pm: 0,
         pd: 0,
     };
-    assert_eq!(decode(FULL, 0x25e0_4000), Ok(second));
-    assert_eq!(encode(FULL, second), Ok(0x25e0_4000));
+    for (word, psel) in [(0x252c_4000, first), (0x25e0_4000, second)] {
+        assert_eq!(decode(FULL, word), Ok(psel));
+        assert_eq!(encode(FULL, psel), Ok(word));
+        assert_eq!(psel.name(), "PSEL");
+    }
+}
+
+/// Request 2's fields in the word: Pn, copied whole, is bits 13 to 10, Pm,
+/// which supplies the element, bits 8 to 5, and Rv bits 17 and 16.
+#[test]
+fn fields_of_psel() {
+    let psel = Instruction::Psel {
+        size: 8,
+        offset: 1,
+        index: 14,
+        pn: 9,
+        pm: 6,
+        pd: 3,
+    };
+    let word = 0x252c_4000 | 2 << 16 | 9 << 10 | 6 << 5 | 3;
+    assert_eq!(decode(FULL, word), Ok(psel));
+    assert_eq!(encode(FULL, psel), Ok(word));
+    assert_eq!(psel.fields(), [8, 1, 14, 9, 6, 3]);
 }
 
 #[test]
@@ -133,7 +155,7 @@ fn words_of_the_listing() {
         pd: 0,
     };
     assert_eq!(decode(FULL, 0x2520_7010), Ok(pext));
-    // DUP's fixed bits, but tszh:tszl is 0000.
+    // PSEL's fixed bits, but tszh:tszl is 0000.
     assert_eq!(decode(FULL, 0x2520_4000), Err(Refusal::Undefined));
 }
 
@@ -145,7 +167,8 @@ fn features_of_each_form() {
     let others: [(u32, &[u32]); 5] = [
         (0x2520_7010, &[3, 7, 12, 13, 15, 28, 29, 31]),
         (0x2520_741f, &[3, 7, 12, 13, 15, 28, 29, 31]),
-        (0x252c_4000, &[4, 5, 7, 12, 13, 15, 28, 29, 31]),
+        // SME or SVE2p1, by document 02, request 2.
+        (0x252c_4000, &[3, 4, 5, 7, 12, 13, 15, 28, 29, 31]),
         (0xc08a_9000, &[12, 13, 15, 28, 29, 31]),
         (0xc09a_9000, &[28, 29, 31]),
     ];

@@ -16,7 +16,7 @@ fn word_count(form: Form) -> usize {
     match form {
         Form::Pext1 => 4 * 4 * 8 * 16,
         Form::Pext2 => 4 * 2 * 8 * 16,
-        Form::Dup => (16 + 8 + 4 + 2) * 4 * 16 * 16 * 16,
+        Form::Psel => (16 + 8 + 4 + 2) * 4 * 16 * 16 * 16,
         Form::Luti4c => 2 * 2 * 32 * 8,
         Form::Luti4s => 2 * 32 * 8,
         Form::Narrow => 16 * (8 + 16 + 32) * 32 * 32,
@@ -125,18 +125,18 @@ fn all_small_fields_of_the_family() {
 }
 
 #[test]
-fn all_small_fields_of_dup() {
+fn all_small_fields_of_psel() {
     let mut accepted = 0;
     for size in 0..=65 {
         for offset in 0..=17 {
             for index in 10..=17 {
-                for pg in 0..=17 {
+                for pn in 0..=17 {
                     // The last two fields are walked on the diagonal and its
                     // neighbours, to keep the count small.
-                    for pn in 0..=17 {
-                        for pd in [pn, (pn + 5) % 18] {
-                            let fields = [size, offset, index, pg, pn, pd];
-                            let instruction = Instruction::from_fields(Form::Dup, fields);
+                    for pm in 0..=17 {
+                        for pd in [pm, (pm + 5) % 18] {
+                            let fields = [size, offset, index, pn, pm, pd];
+                            let instruction = Instruction::from_fields(Form::Psel, fields);
                             if let Ok(word) = encode(FULL, instruction) {
                                 assert_eq!(decode(FULL, word), Ok(instruction));
                                 accepted += 1;
@@ -147,7 +147,7 @@ fn all_small_fields_of_dup() {
             }
         }
     }
-    // pn 0..=15 with pd = pn is 16 pairs; with pd = pn + 5 mod 18, pn 11 and
+    // pm 0..=15 with pd = pm is 16 pairs; with pd = pm + 5 mod 18, pm 11 and
     // 12 give 16 and 17, which leaves 14.
     assert_eq!(accepted, (16 + 8 + 4 + 2) * 4 * 16 * (16 + 14));
 }

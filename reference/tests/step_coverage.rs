@@ -51,7 +51,7 @@ fn every_size_length_and_immediate() {
                     assert!(here(Form::Pext2, &|f| f[..2] == [size, i1]));
                 }
                 for offset in 0..128 / size {
-                    assert!(here(Form::Dup, &|f| f[..2] == [size, offset]));
+                    assert!(here(Form::Psel, &|f| f[..2] == [size, offset]));
                 }
             }
             for size in [8, 16, 32] {
@@ -90,13 +90,13 @@ fn overlapping_registers() {
             for size in [8, 16, 32, 64] {
                 assert!(here(Form::Pext2, &|f| f[0] == size && f[3] == 14));
                 assert!(here(Form::Pext2, &|f| f[0] == size && f[3] == 15));
-                let dup = |with: &dyn Fn(u32, u32, u32) -> bool| {
-                    here(Form::Dup, &|f| f[0] == size && with(f[3], f[4], f[5]))
+                let psel = |with: &dyn Fn(u32, u32, u32) -> bool| {
+                    here(Form::Psel, &|f| f[0] == size && with(f[3], f[4], f[5]))
                 };
-                assert!(dup(&|pg, pn, pd| pd == pg && pd != pn));
-                assert!(dup(&|pg, pn, pd| pd == pn && pd != pg));
-                assert!(dup(&|pg, pn, pd| pg == pn && pd != pn));
-                assert!(dup(&|pg, pn, pd| pg == pn && pd == pn));
+                assert!(psel(&|pn, pm, pd| pd == pn && pd != pm));
+                assert!(psel(&|pn, pm, pd| pd == pm && pd != pn));
+                assert!(psel(&|pn, pm, pd| pn == pm && pd != pm));
+                assert!(psel(&|pn, pm, pd| pn == pm && pd == pm));
             }
             for i1 in 0..2 {
                 for r in 0..4 {
@@ -280,7 +280,7 @@ fn index_sums_around_the_wrap() {
             for offset in 0..128 / size {
                 let sums: HashSet<u64> = done
                     .iter()
-                    .filter(|(_, i)| i.form() == Form::Dup && i.fields()[..2] == [size, offset])
+                    .filter(|(_, i)| i.form() == Form::Psel && i.fields()[..2] == [size, offset])
                     .map(|(question, found)| {
                         let base = question.start.w[found.fields()[2] as usize - 12];
                         u64::from(base) + u64::from(offset)

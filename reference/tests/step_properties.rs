@@ -144,7 +144,7 @@ fn every_read_makes_a_difference() {
             Form::Pext1 | Form::Pext2 => 1,
             // The second only of T words.
             Form::Luti4c | Form::Luti4s | Form::Narrow => 2,
-            Form::Dup => 3,
+            Form::Psel => 3,
         };
         let mut matters = vec![false; reads];
         each_word(13, 12, |setting, word, touched, random| {

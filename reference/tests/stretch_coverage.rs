@@ -15,6 +15,7 @@ use reference::random::Random;
 use reference::run_question::{RunAnswer, RunQuestion};
 use reference::run_questions;
 use reference::setting::{FULL, Setting, VECTOR_LENGTHS};
+use reference::step::step;
 use reference::text::{
     permission_question_line, read_permission_question, read_run_question, run_question_line,
 };
@@ -202,7 +203,7 @@ fn refusals_everywhere() {
                 };
                 let possible = match number {
                     4 => !matches!(form, Form::Luti4c | Form::Luti4s),
-                    5 => !matches!(form, Form::Dup | Form::Narrow),
+                    5 => !matches!(form, Form::Psel | Form::Narrow),
                     6 => matches!(form, Form::Luti4c | Form::Luti4s),
                     _ => true,
                 };
@@ -341,6 +342,71 @@ fn all_sixteen_words_in_runs() {
         assert_eq!(ran.len(), 16 * 5);
         assert_eq!(moved.len(), 16);
         assert_eq!(interleaved.len(), 8);
+    }
+}
+
+/// PSEL with SVE2p1 alone in accepted stretches, of every size at every length,
+/// with a permitted order that moves it and with one that is not permitted; of
+/// every size it copies here and clears there.
+#[test]
+fn psel_without_sme() {
+    for seed in SEEDS {
+        let (mut ran, mut moved, mut left) = (HashSet::new(), HashSet::new(), HashSet::new());
+        for case in cases::generate(&mut Random::new(seed)) {
+            let setting = case.start.setting;
+            if setting.features != 3 {
+                continue;
+            }
+            let mut machine = case.start.machine();
+            for (place, &word) in case.words.iter().enumerate() {
+                let before = machine.clone();
+                assert_eq!(step(setting, word, &mut machine), Ok(()));
+                let Ok(Instruction::Psel { size, pn, pd, .. }) = decode(setting, word) else {
+                    continue;
+                };
+                ran.insert((size, setting.vl, case.forbidden.is_empty()));
+                if case.permitted.iter().any(|order| order[place] != place) {
+                    moved.insert(size);
+                }
+                let copied = before.predicate(pn, setting.vl);
+                if copied.contains(&true) {
+                    left.insert((size, machine.predicate(pd, setting.vl) == copied));
+                }
+            }
+        }
+        for size in [8, 16, 32, 64] {
+            for vl in VECTOR_LENGTHS {
+                assert!(ran.contains(&(size, vl, false)), "{size} {vl}");
+            }
+        }
+        assert_eq!(moved.len(), 4);
+        assert_eq!(left.len(), 4 * 2);
+    }
+}
+
+/// PSEL as the word that refuses a run, and in runs that are done, under the
+/// feature numbers that differ in SVE2p1 and SME.
+#[test]
+fn psel_under_every_feature_it_hangs_on() {
+    for seed in SEEDS {
+        let (mut refused, mut accepted) = (HashSet::new(), HashSet::new());
+        for (question, answer) in runs(seed) {
+            let features = question.start.setting.features;
+            let is_psel =
+                |&word: &u32| decode(FULL, word).map(|found| found.form()) == Ok(Form::Psel);
+            let [number, done, ..] = answer;
+            if number == 0 && question.words.iter().any(is_psel) {
+                accepted.insert(features);
+            } else if question.words.get(done as usize).is_some_and(is_psel) {
+                refused.insert((features, number, done > 0));
+            }
+        }
+        for features in [3, 4, 5, 7] {
+            assert!(accepted.contains(&features), "{features}");
+            assert!(refused.contains(&(features, 4, false)), "{features}");
+        }
+        assert!(!accepted.contains(&1));
+        assert!(refused.contains(&(1, 3, false)) && refused.contains(&(1, 3, true)));
     }
 }
 

@@ -1,7 +1,9 @@
 //! Every form at every size, length and immediate; document 01's points; PC.
 
-use super::{List, word_of};
+use super::List;
+use super::psel::indexed_bit;
 use crate::instruction::Form;
+use crate::roles::word_of;
 use crate::samples;
 use crate::setting::VECTOR_LENGTHS;
 use crate::values::PCS_OF_NOTE;
@@ -10,7 +12,7 @@ impl List {
     pub(super) fn forms(&mut self) {
         self.points();
         self.every_portion();
-        self.every_dup_offset();
+        self.every_psel_offset();
         self.every_lookup();
         self.every_shift();
         self.every_pc();
@@ -90,24 +92,24 @@ impl List {
         }
     }
 
-    /// DUP at every offset of every size, at every length; index sums at and
-    /// around 2^32; and, where a whole source can be chosen, one with a single
+    /// PSEL at every offset of every size, at every length; index sums at and
+    /// around 2^32; and, where a whole Pm can be chosen, one with a single
     /// element true or false, at which the index must point.
-    fn every_dup_offset(&mut self) {
+    fn every_psel_offset(&mut self) {
         for size in [8, 16, 32, 64] {
             for offset in 0..128 / size {
                 for vl in VECTOR_LENGTHS {
-                    let mut fields = self.fields(Form::Dup);
+                    let mut fields = self.fields(Form::Psel);
                     fields[..2].copy_from_slice(&[size, offset]);
-                    let question = self.open_form(vl, Form::Dup, fields);
+                    let question = self.open_form(vl, Form::Psel, fields);
                     self.add(question);
                 }
                 let sums = [u32::MAX, u32::MAX - offset, 0u32.wrapping_sub(offset)];
                 for base in sums {
                     let vl = self.any_length();
-                    let mut fields = self.fields(Form::Dup);
+                    let mut fields = self.fields(Form::Psel);
                     fields[..2].copy_from_slice(&[size, offset]);
-                    let mut question = self.open_form(vl, Form::Dup, fields);
+                    let mut question = self.open_form(vl, Form::Psel, fields);
                     question.start.w[fields[2] as usize - 12] = base;
                     self.add(question);
                 }
@@ -117,17 +119,14 @@ impl List {
     }
 
     fn single_element(&mut self, size: u32, offset: u32) {
-        let mut fields = self.fields(Form::Dup);
-        let pn = self.register_apart(16, &[fields[3]]);
+        let mut fields = self.fields(Form::Psel);
+        let pm = self.register_apart(16, &[fields[3]]);
         fields[..2].copy_from_slice(&[size, offset]);
-        fields[4] = pn;
-        let question = self.open_form(128, Form::Dup, fields);
-        let base = u64::from(question.start.w[fields[2] as usize - 12]);
-        let elements = u64::from(128 / size);
-        let index = (base + u64::from(offset)) % elements;
-        let single = 1u16 << (index * u64::from(size) / 8);
-        self.add(question.with_predicate(pn, single));
-        self.add(question.with_predicate(pn, !single));
+        fields[4] = pm;
+        let question = self.open_form(128, Form::Psel, fields);
+        let single = 1u16 << indexed_bit(&question, fields);
+        self.add(question.with_predicate(pm, single));
+        self.add(question.with_predicate(pm, !single));
     }
 
     /// LUTI4 at every length, size and i1, to every destination.

@@ -1,6 +1,7 @@
 //! Sources that are destinations too.
 
 use super::List;
+use super::psel::with_indexed;
 use crate::instruction::Form;
 use crate::setting::VECTOR_LENGTHS;
 
@@ -9,7 +10,7 @@ impl List {
         for vl in VECTOR_LENGTHS {
             self.counter_and_destination(vl);
             self.pairs_at_the_wrap(vl);
-            self.dup_registers(vl);
+            self.psel_registers(vl);
             self.lookup_into_its_source(vl);
             self.narrow_in_place(vl);
         }
@@ -46,18 +47,21 @@ impl List {
         }
     }
 
-    /// Pd is Pg, Pd is Pn, Pg is Pn, and all three are one.
-    fn dup_registers(&mut self, vl: u32) {
+    /// Pd is Pn, Pd is Pm, Pn is Pm, and all three are one; with the element
+    /// at the index true and false.
+    fn psel_registers(&mut self, vl: u32) {
         for size in [8, 16, 32, 64] {
             let a = self.random.below(16);
             let b = self.register_apart(16, &[a]);
             for registers in [[a, b, a], [b, a, a], [a, a, b], [a, a, a]] {
-                let mut fields = self.fields(Form::Dup);
+                let mut fields = self.fields(Form::Psel);
                 fields[0] = size;
                 fields[1] = self.random.below(128 / size);
                 fields[3..].copy_from_slice(&registers);
-                let question = self.open_form(vl, Form::Dup, fields);
-                self.add(question);
+                let question = self.open_form(vl, Form::Psel, fields);
+                for element in [true, false] {
+                    self.add(with_indexed(question, fields, element));
+                }
             }
         }
     }

@@ -1,9 +1,8 @@
 //! Settings, file lengths, words and flags that are refused, alone and
 //! together.
 
-use super::List;
+use super::{List, flags};
 use crate::instruction::Form;
-use crate::machine::Flags;
 use crate::samples;
 use crate::setting::{ALL_FEATURES, VECTOR_LENGTHS};
 use crate::step_question::StepQuestion;
@@ -178,8 +177,4 @@ impl List {
             }
         }
     }
-}
-
-fn flags(number: u32) -> Flags {
-    Flags::from_number(number).expect("three bits")
 }

@@ -14,7 +14,7 @@ pub fn masks(word: u32) -> (u64, u64) {
     match found.form() {
         Form::Pext1 => (p(8 | word >> 5 & 7), p(word)),
         Form::Pext2 => (p(8 | word >> 5 & 7), p(word) | p(word + 1)),
-        Form::Dup => (p(word >> 10) | p(word >> 5), p(word)),
+        Form::Psel => (p(word >> 10) | p(word >> 5), p(word)),
         Form::Luti4c => (z(word >> 5), 15 << (word & 28)),
         Form::Luti4s => (z(word >> 5), 0x1111 << (word & 19)),
         // T, bit 10, also reads what it writes.
