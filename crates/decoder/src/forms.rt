@@ -5,12 +5,12 @@ ghost use Rattle.element.specs.Units.{sizeAt};
 ghost use Rattle.encoding.specs.Decode.{readAt, decodedAs};
 ghost use Rattle.encoding.specs.declared.Instruction.the-variants.{Pext1, Pext2, Luti4c, Luti4s};
 ghost use Rattle.encoding.specs.Rows.{rows};
-ghost use Rattle.fields.specs.Operands.{dupAs, narrowAs};
+ghost use Rattle.fields.specs.Operands.{pselAs, narrowAs};
 use encoding::Decoded;
 use encoding::Instruction;
-use fields::DupOperands;
 use fields::NarrowOperands;
 use fields::Operands;
+use fields::PselOperands;
 use setting::Answer;
 
 fn pext1(o: Operands) -> Decoded
@@ -82,16 +82,16 @@ fn size_at(log: u32) -> u32
     0
 }
 
-fn dup(o: DupOperands) -> Decoded
-    ensures { λ r. ⌜ decodedAs r ≡ accept (dupAs o) ⌝ }
+fn psel(o: PselOperands) -> Decoded
+    ensures { λ r. ⌜ decodedAs r ≡ accept (pselAs o) ⌝ }
 {
     let size = size_at(o.log);
-    Decoded::Fields(Instruction::Dup {
+    Decoded::Fields(Instruction::Psel {
         size,
         offset: o.offset,
         index: o.index,
-        pg: o.pg,
         pn: o.pn,
+        pm: o.pm,
         pd: o.pd,
     })
 }
@@ -103,7 +103,7 @@ pub(crate) fn read(place: usize, word: u32) -> Decoded
     match place {
         0 => pext1(fields::pext1(word)),
         1 => pext2(fields::pext2(word)),
-        2 => dup(fields::dup(word)),
+        2 => psel(fields::psel(word)),
         3 => luti4c(fields::luti4c(word)),
         4 => luti4s(fields::luti4s(word)),
         5 => narrow(fields::narrow(word)),

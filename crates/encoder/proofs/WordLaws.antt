@@ -9,11 +9,11 @@ use borrow.Author.Tests.{eqb-true, leb-true}
 use Rattle.element.specs.Units.{logOf}
 use Rattle.element.proofs.Tests.{both-yes}
 use Rattle.encoding.specs.Layout.{wordOf, fixedOf}
-use Rattle.encoding.specs.Instructions.{pextInRange, inRange, rawDupBits, narrowNumber, rawOf}
+use Rattle.encoding.specs.Instructions.{pextInRange, inRange, rawPselBits, narrowNumber, rawOf}
 use Rattle.encoding.specs.Places.{layoutAt}
-use Rattle.encoding.specs.Rows.{rowOf, placeOf, pext1, pext2, dup, luti4c, luti4s, narrow}
+use Rattle.encoding.specs.Rows.{rowOf, placeOf, pext1, pext2, psel, luti4c, luti4s, narrow}
 use Rattle.encoding.specs.declared.Instruction.{Instruction}
-use Rattle.encoding.specs.declared.Instruction.the-variants.{Pext1, Pext2, Dup, Luti4c, Luti4s, Narrow}
+use Rattle.encoding.specs.declared.Instruction.the-variants.{Pext1, Pext2, Psel, Luti4c, Luti4s, Narrow}
 use Rattle.encoding.proofs.FieldBits.{luti-size, strided-zd, narrow-bits, narrow-cases, digit-lt}
 use Rattle.encoding.proofs.InRange.{pext-ranges, luti-ranges, narrow-ranges}
 use Rattle.encoding.proofs.Round.{column-at-place}
@@ -58,10 +58,10 @@ pub pext2-sum : (size i1 counter pd raw w : ℕ) → raw ≡ logOf size → w �
     → fixedOf (pext2 .layout) + w ≡ wordOf (pext2 .layout) (rawOf (Pext2 size i1 counter pd))
 pext2-sum size i1 counter pd raw w e q = omega arith
 
-pub dup-sum : (size offset index pg pn pd bits w : ℕ) → bits ≡ rawDupBits size offset
-    → w ≡ bits / 8 * 0x400000 + bits % 8 * 0x40000 + (index - 12) * 0x10000 + pg * 0x400 + pn * 32 + pd
-    → fixedOf (dup .layout) + w ≡ wordOf (dup .layout) (rawOf (Dup size offset index pg pn pd))
-dup-sum size offset index pg pn pd bits w e q = rw (sym e) (omega arith)
+pub psel-sum : (size offset index pn pm pd bits w : ℕ) → bits ≡ rawPselBits size offset
+    → w ≡ bits / 8 * 0x400000 + bits % 8 * 0x40000 + (index - 12) * 0x10000 + pn * 0x400 + pm * 32 + pd
+    → fixedOf (psel .layout) + w ≡ wordOf (psel .layout) (rawOf (Psel size offset index pn pm pd))
+psel-sum size offset index pn pm pd bits w e q = rw (sym e) (omega arith)
 
 pub luti4c-sum : (size i1 zn zd raw w : ℕ) → inRange (Luti4c size i1 zn zd) ≡ true → raw ≡ logOf size → w ≡ i1 * 0x10000 + raw * 0x1000 + zn * 32 + zd
     → fixedOf (luti4c .layout) + w ≡ wordOf (luti4c .layout) (rawOf (Luti4c size i1 zn zd))

@@ -4,7 +4,7 @@ ghost use mathlib.Core.Bool.{_&&_};
 ghost use Prim.Native.Nat.{_/_};
 ghost use lib.Dec.{ltb};
 ghost use Rattle.element.specs.Size.{isSize};
-ghost use Rattle.encoding.specs.Instructions.{inRange, pextInRange, dupInRange, lutiInRange, narrowInRange};
+ghost use Rattle.encoding.specs.Instructions.{inRange, pextInRange, pselInRange, lutiInRange, narrowInRange};
 use encoding::Instruction;
 
 fn pext(bound: u32, size: u32, portion: u32, counter: u32, pd: u32) -> bool
@@ -14,7 +14,7 @@ fn pext(bound: u32, size: u32, portion: u32, counter: u32, pd: u32) -> bool
 }
 
 // Whether the size is one and the offset below 128 divided by it. A size of 0 divides nothing.
-fn dup_offset(size: u32, offset: u32) -> bool
+fn psel_offset(size: u32, offset: u32) -> bool
     ensures { λ r. ⌜ r ≡ (isSize size && ltb offset (128 / size)) ⌝ }
 {
     if !element::is_size(size) {
@@ -23,10 +23,10 @@ fn dup_offset(size: u32, offset: u32) -> bool
     offset < 128 / size
 }
 
-fn dup(size: u32, offset: u32, index: u32, pg: u32, pn: u32, pd: u32) -> bool
-    ensures { λ r. ⌜ r ≡ dupInRange size offset index pg pn pd ⌝ }
+fn psel(size: u32, offset: u32, index: u32, pn: u32, pm: u32, pd: u32) -> bool
+    ensures { λ r. ⌜ r ≡ pselInRange size offset index pn pm pd ⌝ }
 {
-    dup_offset(size, offset) & ((12 <= index) & (index < 16)) & ((pg < 16) & (pn < 16) & (pd < 16))
+    psel_offset(size, offset) & ((12 <= index) & (index < 16)) & ((pn < 16) & (pm < 16) & (pd < 16))
 }
 
 // What LUTI4's two layouts share; their sizes and destinations are tested before.
@@ -60,14 +60,14 @@ pub(crate) fn in_range(instruction: Instruction) -> bool
             counter,
             pd,
         } => pext(2, size, i1, counter, pd),
-        Instruction::Dup {
+        Instruction::Psel {
             size,
             offset,
             index,
-            pg,
             pn,
+            pm,
             pd,
-        } => dup(size, offset, index, pg, pn, pd),
+        } => psel(size, offset, index, pn, pm, pd),
         Instruction::Luti4c { size, i1, zn, zd } => {
             luti(
                 (size == 16) | (size == 32),

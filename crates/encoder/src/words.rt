@@ -3,17 +3,17 @@ ghost use mathlib.Core.Path.{_≡_};
 ghost use mathlib.Core.Bool.{true};
 ghost use Prim.Native.Nat.{_+_, _-_, _*_, _/_, _%_, _<_, _≤_};
 ghost use Rattle.encoding.specs.Layout.{wordOf, fixedOf};
-ghost use Rattle.encoding.specs.Instructions.{rawDupBits, inRange, rawOf};
+ghost use Rattle.encoding.specs.Instructions.{rawPselBits, inRange, rawOf};
 ghost use Rattle.encoding.specs.Rows.{rowOf};
 use element::log_of;
 use encoding::Instruction;
 use encoding::narrow_number;
 use encoding::table;
 
-// DUP's i1:tszh:tszl.
-fn dup_bits(size: u32, offset: u32) -> u32
-    requires { ⌜ rawDupBits size offset < 32 ⌝ }
-    ensures { λ r. ⌜ r ≡ rawDupBits size offset ⌝ }
+// PSEL's i1:tszh:tszl.
+fn psel_bits(size: u32, offset: u32) -> u32
+    requires { ⌜ rawPselBits size offset < 32 ⌝ }
+    ensures { λ r. ⌜ r ≡ rawPselBits size offset ⌝ }
 {
     offset * (size / 4) + size / 8
 }
@@ -26,11 +26,11 @@ fn pext(raw: u32, portion: u32, counter: u32, pd: u32) -> u32
     raw * 0x400000 + portion * 0x100 + (counter - 8) * 32 + pd
 }
 
-fn dup(bits: u32, index: u32, pg: u32, pn: u32, pd: u32) -> u32
-    requires { ⌜ (bits < 32) × (12 ≤ index) × (index < 16) × (pg < 16) × (pn < 16) × (pd < 16) ⌝ }
-    ensures { λ r. ⌜ r ≡ bits / 8 * 0x400000 + bits % 8 * 0x40000 + (index - 12) * 0x10000 + pg * 0x400 + pn * 32 + pd ⌝ }
+fn psel(bits: u32, index: u32, pn: u32, pm: u32, pd: u32) -> u32
+    requires { ⌜ (bits < 32) × (12 ≤ index) × (index < 16) × (pn < 16) × (pm < 16) × (pd < 16) ⌝ }
+    ensures { λ r. ⌜ r ≡ bits / 8 * 0x400000 + bits % 8 * 0x40000 + (index - 12) * 0x10000 + pn * 0x400 + pm * 32 + pd ⌝ }
 {
-    bits / 8 * 0x400000 + bits % 8 * 0x40000 + (index - 12) * 0x10000 + pg * 0x400 + pn * 32 + pd
+    bits / 8 * 0x400000 + bits % 8 * 0x40000 + (index - 12) * 0x10000 + pn * 0x400 + pm * 32 + pd
 }
 
 // Both layouts of LUTI4 have the first destination's number in the word's low five bits.
@@ -68,14 +68,14 @@ fn fields_of(instruction: Instruction) -> u32
             counter,
             pd,
         } => pext(log_of(size), i1, counter, pd),
-        Instruction::Dup {
+        Instruction::Psel {
             size,
             offset,
             index,
-            pg,
             pn,
+            pm,
             pd,
-        } => dup(dup_bits(size, offset), index, pg, pn, pd),
+        } => psel(psel_bits(size, offset), index, pn, pm, pd),
         Instruction::Luti4c { size, i1, zn, zd } => luti(log_of(size), i1, zn, zd),
         Instruction::Luti4s { size, i1, zn, zd } => luti(log_of(size), i1, zn, zd),
         Instruction::Narrow {

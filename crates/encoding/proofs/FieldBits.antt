@@ -1,4 +1,4 @@
--- Element sizes, DUP's offset, a strided Zd, a narrowing word's shift and a flag as the bits that say them, and back: by cases on the sizes, and by tests over all values of the bits.
+-- Element sizes, PSEL's offset, a strided Zd, a narrowing word's shift and a flag as the bits that say them, and back: by cases on the sizes, and by tests over all values of the bits.
 use mathlib.Core.Path.{_≡_, refl, ap}
 use mathlib.Core.Bool.{Bool, true, false, not, _&&_, _||_}
 use Prim.Native.Nat.{ℕ, zero, suc, _+_, _-_, _*_, _%_, _/_, _^_, _<_, _≤_}
@@ -12,7 +12,7 @@ use Rattle.element.specs.Contents.{digit}
 use Rattle.element.proofs.Below.{both, is-true, below}
 use Rattle.element.proofs.Tests.{both-yes}
 use Rattle.element.proofs.Units.{size-cases}
-use Rattle.encoding.specs.Instructions.{isZ, narrowInRange, dupOffset, rawDupBits, narrowSize, isSet}
+use Rattle.encoding.specs.Instructions.{isZ, narrowInRange, pselOffset, rawPselBits, narrowSize, isSet}
 use Rattle.encoding.proofs.Apart.{decide}
 
 or-right : (a b : Bool) → a ≡ false → T (a || b) → T b
@@ -41,48 +41,48 @@ log-size (suc (suc zero)) h = (refl, refl)
 log-size (suc (suc (suc zero))) h = (refl, refl)
 log-size (suc (suc (suc (suc n)))) h = absurd (omega arith)
 
--- ---- DUP: the bits i1:tszh:tszl, by a test over all of them and one over the offsets of each size
+-- ---- PSEL: the bits i1:tszh:tszl, by a test over all of them and one over the offsets of each size
 bits-of : ℕ → ℕ → Bool
 unfolding sizeOf trailingZeros
-bits-of n o = ltb (rawDupBits n o) 32 && not (eqb (rawDupBits n o % 16) 0) && (eqb (sizeOf (rawDupBits n o)) n && eqb (dupOffset (rawDupBits n o)) o)
+bits-of n o = ltb (rawPselBits n o) 32 && not (eqb (rawPselBits n o % 16) 0) && (eqb (sizeOf (rawPselBits n o)) n && eqb (pselOffset (rawPselBits n o)) o)
 
-pub record DupBits (size offset : ℕ) : Type 0 where
-  pub lt : rawDupBits size offset < 32
-  pub some : not (eqb (rawDupBits size offset % 16) 0) ≡ true
-  pub size-back : sizeOf (rawDupBits size offset) ≡ size
-  pub offset-back : dupOffset (rawDupBits size offset) ≡ offset
+pub record PselBits (size offset : ℕ) : Type 0 where
+  pub lt : rawPselBits size offset < 32
+  pub some : not (eqb (rawPselBits size offset % 16) 0) ≡ true
+  pub size-back : sizeOf (rawPselBits size offset) ≡ size
+  pub offset-back : pselOffset (rawPselBits size offset) ≡ offset
 
-tested-bits : (n o : ℕ) → T (bits-of n o) → DupBits n o
+tested-bits : (n o : ℕ) → T (bits-of n o) → PselBits n o
 unfolding bits-of sizeOf trailingZeros
 tested-bits n o t =
-    let a = both (ltb (rawDupBits n o) 32 && not (eqb (rawDupBits n o % 16) 0)) (eqb (sizeOf (rawDupBits n o)) n && eqb (dupOffset (rawDupBits n o)) o) t in
-    let b = both (ltb (rawDupBits n o) 32) (not (eqb (rawDupBits n o % 16) 0)) (a .0) in
-    let c = both (eqb (sizeOf (rawDupBits n o)) n) (eqb (dupOffset (rawDupBits n o)) o) (a .1) in
-    record { lt = ltb→lt (rawDupBits n o) 32 (b .0); some = is-true (not (eqb (rawDupBits n o % 16) 0)) (b .1); size-back = eqb→eq (sizeOf (rawDupBits n o)) n (c .0); offset-back = eqb→eq (dupOffset (rawDupBits n o)) o (c .1) }
+    let a = both (ltb (rawPselBits n o) 32 && not (eqb (rawPselBits n o % 16) 0)) (eqb (sizeOf (rawPselBits n o)) n && eqb (pselOffset (rawPselBits n o)) o) t in
+    let b = both (ltb (rawPselBits n o) 32) (not (eqb (rawPselBits n o % 16) 0)) (a .0) in
+    let c = both (eqb (sizeOf (rawPselBits n o)) n) (eqb (pselOffset (rawPselBits n o)) o) (a .1) in
+    record { lt = ltb→lt (rawPselBits n o) 32 (b .0); some = is-true (not (eqb (rawPselBits n o % 16) 0)) (b .1); size-back = eqb→eq (sizeOf (rawPselBits n o)) n (c .0); offset-back = eqb→eq (pselOffset (rawPselBits n o)) o (c .1) }
 
-pub dup-bits : (n : ℕ) → isSize n ≡ true → (o : ℕ) → o < 128 / n → DupBits n o
+pub psel-bits : (n : ℕ) → isSize n ≡ true → (o : ℕ) → o < 128 / n → PselBits n o
 unfolding bits-of sizeOf trailingZeros
-dup-bits =
-    size-cases (λ n. (o : ℕ) → o < 128 / n → DupBits n o)
+psel-bits =
+    size-cases (λ n. (o : ℕ) → o < 128 / n → PselBits n o)
     (λ o h. tested-bits 8 o (below (bits-of 8) 16 tt o h)) (λ o h. tested-bits 16 o (below (bits-of 16) 8 tt o h))
     (λ o h. tested-bits 32 o (below (bits-of 32) 4 tt o h)) (λ o h. tested-bits 64 o (below (bits-of 64) 2 tt o h))
 
 bits-read : ℕ → Bool
 unfolding sizeOf trailingZeros
-bits-read t = eqb (t % 16) 0 || (isSize (sizeOf t) && ltb (dupOffset t) (128 / sizeOf t) && eqb (rawDupBits (sizeOf t) (dupOffset t)) t)
+bits-read t = eqb (t % 16) 0 || (isSize (sizeOf t) && ltb (pselOffset t) (128 / sizeOf t) && eqb (rawPselBits (sizeOf t) (pselOffset t)) t)
 
 pub record BitsRead (t : ℕ) : Type 0 where
   pub size : isSize (sizeOf t) ≡ true
-  pub offset : ltb (dupOffset t) (128 / sizeOf t) ≡ true
-  pub back : rawDupBits (sizeOf t) (dupOffset t) ≡ t
+  pub offset : ltb (pselOffset t) (128 / sizeOf t) ≡ true
+  pub back : rawPselBits (sizeOf t) (pselOffset t) ≡ t
 
-pub dup-read : (t : ℕ) → t < 32 → eqb (t % 16) 0 ≡ false → BitsRead t
+pub psel-read : (t : ℕ) → t < 32 → eqb (t % 16) 0 ≡ false → BitsRead t
 unfolding bits-read sizeOf trailingZeros
-dup-read t h n =
-    let a : T (isSize (sizeOf t) && ltb (dupOffset t) (128 / sizeOf t) && eqb (rawDupBits (sizeOf t) (dupOffset t)) t) = or-right (eqb (t % 16) 0) _ n (below bits-read 32 tt t h) in
-    let b = both (isSize (sizeOf t) && ltb (dupOffset t) (128 / sizeOf t)) (eqb (rawDupBits (sizeOf t) (dupOffset t)) t) a in
-    let c = both (isSize (sizeOf t)) (ltb (dupOffset t) (128 / sizeOf t)) (b .0) in
-    record { size = is-true (isSize (sizeOf t)) (c .0); offset = is-true (ltb (dupOffset t) (128 / sizeOf t)) (c .1); back = eqb→eq (rawDupBits (sizeOf t) (dupOffset t)) t (b .1) }
+psel-read t h n =
+    let a : T (isSize (sizeOf t) && ltb (pselOffset t) (128 / sizeOf t) && eqb (rawPselBits (sizeOf t) (pselOffset t)) t) = or-right (eqb (t % 16) 0) _ n (below bits-read 32 tt t h) in
+    let b = both (isSize (sizeOf t) && ltb (pselOffset t) (128 / sizeOf t)) (eqb (rawPselBits (sizeOf t) (pselOffset t)) t) a in
+    let c = both (isSize (sizeOf t)) (ltb (pselOffset t) (128 / sizeOf t)) (b .0) in
+    record { size = is-true (isSize (sizeOf t)) (c .0); offset = is-true (ltb (pselOffset t) (128 / sizeOf t)) (c .1); back = eqb→eq (rawPselBits (sizeOf t) (pselOffset t)) t (b .1) }
 
 pub some-size : (n : ℕ) → isSize n ≡ true → 0 < n
 some-size = size-cases (λ n. 0 < n) (lit< tt) (lit< tt) (lit< tt) (lit< tt)

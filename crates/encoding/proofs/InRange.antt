@@ -10,12 +10,12 @@ use Rattle.element.specs.Units.{logOf}
 use Rattle.element.specs.Private.{Log}
 use Rattle.element.proofs.Tests.{both-yes}
 use Rattle.element.proofs.Units.{log-is, size-is}
-use Rattle.encoding.specs.Instructions.{isP, isZ, pextInRange, dupInRange, lutiInRange, narrowInRange, inRange, rawDupBits, rawOf}
+use Rattle.encoding.specs.Instructions.{isP, isZ, pextInRange, pselInRange, lutiInRange, narrowInRange, inRange, rawPselBits, rawOf}
 use Rattle.encoding.specs.Rows.{rowOf}
 use Rattle.encoding.specs.declared.Instruction.{Instruction}
-use Rattle.encoding.specs.declared.Instruction.the-variants.{Pext1, Pext2, Dup, Luti4c, Luti4s, Narrow}
+use Rattle.encoding.specs.declared.Instruction.the-variants.{Pext1, Pext2, Psel, Luti4c, Luti4s, Narrow}
 use Rattle.encoding.proofs.LayoutLaws.{Fit}
-use Rattle.encoding.proofs.FieldBits.{DupBits, dup-bits, luti-size, strided-zd, narrow-bits, digit-lt, set-digit}
+use Rattle.encoding.proofs.FieldBits.{PselBits, psel-bits, luti-size, strided-zd, narrow-bits, digit-lt, set-digit}
 
 -- the fields that it is written with fit its row, meet its condition, and are read as it
 pub record Reads (i : Instruction) : Type 0 where
@@ -42,24 +42,24 @@ pext-ranges bound size portion counter pd e =
 above : (k n : ℕ) → k ≤ n → k + (n - k) ≡ n
 above k n h = omega arith
 
--- ---- DUP
-pub record DupFields (size offset index pg pn pd : ℕ) : Type 0 where
-  pub bits : DupBits size offset
+-- ---- PSEL
+pub record PselFields (size offset index pn pm pd : ℕ) : Type 0 where
+  pub bits : PselBits size offset
   pub index-ge : 12 ≤ index
   pub index-lt : index < 16
-  pub pg-lt : pg < 16
   pub pn-lt : pn < 16
+  pub pm-lt : pm < 16
   pub pd-lt : pd < 16
 
-pub dup-ranges : (size offset index pg pn pd : ℕ) → dupInRange size offset index pg pn pd ≡ true → DupFields size offset index pg pn pd
-dup-ranges size offset index pg pn pd e =
-    let a = both-yes (isSize size && ltb offset (128 / size) && (leb 12 index && ltb index 16)) (isP pg && isP pn && isP pd) e in
+pub psel-ranges : (size offset index pn pm pd : ℕ) → pselInRange size offset index pn pm pd ≡ true → PselFields size offset index pn pm pd
+psel-ranges size offset index pn pm pd e =
+    let a = both-yes (isSize size && ltb offset (128 / size) && (leb 12 index && ltb index 16)) (isP pn && isP pm && isP pd) e in
     let b = both-yes (isSize size && ltb offset (128 / size)) (leb 12 index && ltb index 16) (a .0) in
     let c = both-yes (isSize size) (ltb offset (128 / size)) (b .0) in
     let d = both-yes (leb 12 index) (ltb index 16) (b .1) in
-    let p = both-yes (isP pg && isP pn) (isP pd) (a .1) in
-    let q = both-yes (isP pg) (isP pn) (p .0) in
-    record { bits = dup-bits size (c .0) offset (ltb-true offset (128 / size) (c .1)); index-ge = leb-true 12 index (d .0); index-lt = ltb-true index 16 (d .1); pg-lt = ltb-true pg 16 (q .0); pn-lt = ltb-true pn 16 (q .1); pd-lt = ltb-true pd 16 (p .1) }
+    let p = both-yes (isP pn && isP pm) (isP pd) (a .1) in
+    let q = both-yes (isP pn) (isP pm) (p .0) in
+    record { bits = psel-bits size (c .0) offset (ltb-true offset (128 / size) (c .1)); index-ge = leb-true 12 index (d .0); index-lt = ltb-true index 16 (d .1); pn-lt = ltb-true pn 16 (q .0); pm-lt = ltb-true pm 16 (q .1); pd-lt = ltb-true pd 16 (p .1) }
 
 -- the three raw fields of i1:tszh:tszl put together again, and taken apart
 joined : (t : ℕ) → t / 16 * 16 + (t / 8 % 2 * 8 + t % 8) ≡ t
@@ -68,12 +68,12 @@ joined t = omega arith
 low-joined : (t : ℕ) → t / 8 % 2 * 8 + t % 8 ≡ t % 16
 low-joined t = omega arith
 
-dup-reads : (size offset index pg pn pd : ℕ) → DupFields size offset index pg pn pd → Reads (Dup size offset index pg pn pd)
-dup-reads size offset index pg pn pd r =
-    let t = rawDupBits size offset in
+psel-reads : (size offset index pn pm pd : ℕ) → PselFields size offset index pn pm pd → Reads (Psel size offset index pn pm pd)
+psel-reads size offset index pn pm pd r =
+    let t = rawPselBits size offset in
     let b = r .bits in
     record {
-      fit = (lit< tt, (omega (arith, b .lt), (omega arith, (lit< tt, (omega arith, (omega (arith, r .index-lt), (lit< tt, (r .pg-lt, (lit< tt, (r .pn-lt, (lit< tt, (r .pd-lt, tt))))))))))));
+      fit = (lit< tt, (omega (arith, b .lt), (omega arith, (lit< tt, (omega arith, (omega (arith, r .index-lt), (lit< tt, (r .pn-lt, (lit< tt, (r .pm-lt, (lit< tt, (r .pd-lt, tt))))))))))));
       holds = rw (low-joined t) (b .some);
       back = rw (joined t) (simp (b .size-back, b .offset-back, above 12 index (r .index-ge)));
     }
@@ -145,7 +145,7 @@ in-range-reads (Pext2 size i1 counter pd) e =
       holds = refl;
       back = simp (sym (r .size-log .is), above 8 counter (r .counter-ge));
     }
-in-range-reads (Dup size offset index pg pn pd) e = dup-reads size offset index pg pn pd (dup-ranges size offset index pg pn pd e)
+in-range-reads (Psel size offset index pn pm pd) e = psel-reads size offset index pn pm pd (psel-ranges size offset index pn pm pd e)
 in-range-reads (Luti4c size i1 zn zd) e = luti4c-reads size i1 zn zd e
 in-range-reads (Luti4s size i1 zn zd) e = luti4s-reads size i1 zn zd e
 in-range-reads (Narrow op u r t size shift zn zd) e = narrow-reads op u r t size shift zn zd e

@@ -14,18 +14,18 @@ use Rattle.setting.specs.declared.Setting.{Setting}
 use Rattle.element.proofs.Tests.{both-yes}
 use Rattle.encoding.specs.Layout.{width, fieldsOf, wordOf, matches}
 use Rattle.encoding.specs.Instructions.{inRange, rawOf}
-use Rattle.encoding.specs.Rows.{Row, rows, rowOf, rowMatches, placeOf, pext1, pext2, dup, luti4c, luti4s, narrow}
+use Rattle.encoding.specs.Rows.{Row, rows, rowOf, rowMatches, placeOf, pext1, pext2, psel, luti4c, luti4s, narrow}
 use Rattle.encoding.specs.Places.{placeFirst}
 use Rattle.encoding.specs.Decode.{firstOf, decodeOf, readAt}
 use Rattle.encoding.specs.Encode.{Written, written, encodeOf}
 use Rattle.encoding.specs.Claims.{UndefinedExactly, OneLayout, DecodeEncode, EncodeDecode}
 use Rattle.encoding.specs.declared.Instruction.{Instruction}
-use Rattle.encoding.specs.declared.Instruction.the-variants.{Pext1, Pext2, Dup, Luti4c, Luti4s, Narrow}
+use Rattle.encoding.specs.declared.Instruction.the-variants.{Pext1, Pext2, Psel, Luti4c, Luti4s, Narrow}
 use Rattle.encoding.proofs.LayoutLaws.{word-lt, fields-back, word-matches}
 use Rattle.encoding.proofs.Apart.{decide}
 use Rattle.encoding.proofs.Choice.{disjoint, none-first, first-is-read, place-is, at-most-one, refused-none, each-row, accepted-by}
 use Rattle.encoding.proofs.InRange.{in-range-reads}
-use Rattle.encoding.proofs.WrittenBack.{RowWrites, pext1-writes, pext2-writes, dup-row-writes, luti4c-row-writes, luti4s-row-writes, narrow-row-writes}
+use Rattle.encoding.proofs.WrittenBack.{RowWrites, pext1-writes, pext2-writes, psel-row-writes, luti4c-row-writes, luti4s-row-writes, narrow-row-writes}
 
 -- the six layouts are sound and pairwise apart: computed
 pub rows-disjoint : T (disjoint rows)
@@ -44,7 +44,7 @@ one-layout w = at-most-one rows rows-disjoint w
 pub column-at-place : {A : Type 0} (f : Row → A) (d : A) (i : Instruction) → getD (map f rows) (placeOf i) d ≡ f (rowOf i)
 column-at-place f d (Pext1 size imm2 counter pd) = refl
 column-at-place f d (Pext2 size i1 counter pd) = refl
-column-at-place f d (Dup size offset index pg pn pd) = refl
+column-at-place f d (Psel size offset index pn pm pd) = refl
 column-at-place f d (Luti4c size i1 zn zd) = refl
 column-at-place f d (Luti4s size i1 zn zd) = refl
 column-at-place f d (Narrow op u r t size shift zn zd) = refl
@@ -116,7 +116,7 @@ encode-decode s i w e =
       (
         row-back s pext2 (λ xs. refl) pext2-writes a w,
         (
-          row-back s dup (λ xs. refl) dup-row-writes a w,
+          row-back s psel (λ xs. refl) psel-row-writes a w,
           (row-back s luti4c (λ xs. refl) luti4c-row-writes a w, (row-back s luti4s (λ xs. refl) luti4s-row-writes a w, (row-back s narrow (λ xs. refl) narrow-row-writes a w, tt))),
         ),
       ),

@@ -8,9 +8,9 @@ use lib.Dec.{eqb}
 use borrow.Author.Tests.{eq-eqb, eqb-true, lt-ltb, le-leb, not-true}
 use Rattle.encoding.specs.Layout.{fieldsOf}
 use Rattle.encoding.specs.Instructions.{pextInRange, inRange, rawPext, rawOf}
-use Rattle.encoding.specs.Rows.{Row, pext1, pext2, dup, luti4c, luti4s, narrow}
+use Rattle.encoding.specs.Rows.{Row, pext1, pext2, psel, luti4c, luti4s, narrow}
 use Rattle.encoding.specs.declared.Instruction.{Instruction}
-use Rattle.encoding.proofs.FieldBits.{log-size, dup-read, size-luti, zd-strided, ShiftRead, narrow-read, digit-set}
+use Rattle.encoding.proofs.FieldBits.{log-size, psel-read, size-luti, zd-strided, ShiftRead, narrow-read, digit-set}
 
 -- an instruction in range whose fields are xs
 pub record Writes (i : Instruction) (xs : List ℕ) : Type 0 where
@@ -26,21 +26,21 @@ pext-in-range bound s p n d hs hp hn hd =
       ap₂ (λ (x y : ℕ). x ∷ p ∷ y ∷ d ∷ []) (log-size s hs .0) m,
     )
 
-dup-writes : (a b c m pg pn pd : ℕ) → a < 2 → b < 2 → c < 8 → m < 4 → pg < 16 → pn < 16 → pd < 16 → not (eqb (b * 8 + c) 0) ≡ true
-    → Writes (dup .reading (a ∷ b ∷ c ∷ m ∷ pg ∷ pn ∷ pd ∷ [])) (a ∷ b ∷ c ∷ m ∷ pg ∷ pn ∷ pd ∷ [])
-dup-writes a b c m pg pn pd ha hb hc hm hg hn hd e =
+psel-writes : (a b c v pn pm pd : ℕ) → a < 2 → b < 2 → c < 8 → v < 4 → pn < 16 → pm < 16 → pd < 16 → not (eqb (b * 8 + c) 0) ≡ true
+    → Writes (psel .reading (a ∷ b ∷ c ∷ v ∷ pn ∷ pm ∷ pd ∷ [])) (a ∷ b ∷ c ∷ v ∷ pn ∷ pm ∷ pd ∷ [])
+psel-writes a b c v pn pm pd ha hb hc hv hn hm hd e =
     let t = a * 16 + (b * 8 + c) in
     let l : t % 16 ≡ b * 8 + c = omega arith in
-    let r = dup-read t (omega arith) (rw l (not-true (eqb (b * 8 + c) 0) e)) in
-    let g : 12 ≤ 12 + m = omega arith in
-    let u : 12 + m < 16 = omega arith in
-    let back-m : 12 + m - 12 ≡ m = omega arith in
+    let r = psel-read t (omega arith) (rw l (not-true (eqb (b * 8 + c) 0) e)) in
+    let g : 12 ≤ 12 + v = omega arith in
+    let u : 12 + v < 16 = omega arith in
+    let back-v : 12 + v - 12 ≡ v = omega arith in
     let back-a : t / 16 ≡ a = omega arith in
     let back-b : t / 8 % 2 ≡ b = omega arith in
     let back-c : t % 8 ≡ c = omega arith in
     record {
-      range = simp (r .size, r .offset, le-leb 12 (12 + m) g, lt-ltb (12 + m) 16 u, lt-ltb pg 16 hg, lt-ltb pn 16 hn, lt-ltb pd 16 hd);
-      back = simp (r .back, back-m, back-a, back-b, back-c);
+      range = simp (r .size, r .offset, le-leb 12 (12 + v) g, lt-ltb (12 + v) 16 u, lt-ltb pn 16 hn, lt-ltb pm 16 hm, lt-ltb pd 16 hd);
+      back = simp (r .back, back-v, back-a, back-b, back-c);
     }
 
 luti4c-writes : (i1 s zn d : ℕ) → i1 < 2 → zn < 32 → d < 8 → (eqb s 1 || eqb s 2) ≡ true
@@ -91,9 +91,9 @@ pext2-writes w e =
     let p = pext-in-range 2 (w / 0x400000 % 4) (w / 0x100 % 2) (w / 32 % 8) (w / 1 % 16) (omega arith) (omega arith) (omega arith) (omega arith) in
     record { range = p .0; back = p .1 }
 
-pub dup-row-writes : RowWrites dup
-dup-row-writes w e =
-    dup-writes (w / 0x800000 % 2) (w / 0x400000 % 2) (w / 0x40000 % 8) (w / 0x10000 % 4) (w / 0x400 % 16) (w / 32 % 16) (w / 1 % 16)
+pub psel-row-writes : RowWrites psel
+psel-row-writes w e =
+    psel-writes (w / 0x800000 % 2) (w / 0x400000 % 2) (w / 0x40000 % 8) (w / 0x10000 % 4) (w / 0x400 % 16) (w / 32 % 16) (w / 1 % 16)
     (omega arith) (omega arith) (omega arith) (omega arith) (omega arith) (omega arith) (omega arith) e
 
 pub luti4c-row-writes : RowWrites luti4c

@@ -12,7 +12,7 @@ use Rattle.encoding.specs.Rows.{Row, rows, rowMatches}
 use Rattle.encoding.specs.Decode.{decodeOf}
 use Rattle.encoding.specs.Encode.{written, encodeOf}
 use Rattle.logic.specs.Every.{Every}
-use Rattle.encoding.specs.Points.{readingPoints}
+use Rattle.encoding.specs.Points.{readingPoints, pselReadings}
 use Rattle.encoding.specs.NarrowWords.{NarrowNamed}
 use Rattle.encoding.specs.declared.Instruction.{Instruction}
 
@@ -50,4 +50,5 @@ pub record Claims : Type 0 where
   pub decode-encode : DecodeEncode
   pub encode-decode : EncodeDecode
   pub points : Every readingPoints
+  pub psel-readings : Every pselReadings
   pub narrow-named : NarrowNamed

@@ -9,7 +9,7 @@ use Rattle.element.specs.Size.{zeros, sizeOf, isSize, isResult}
 use Rattle.element.specs.Units.{logOf}
 use Rattle.element.specs.Contents.{digit}
 use Rattle.encoding.specs.declared.Instruction.{Instruction}
-use Rattle.encoding.specs.declared.Instruction.the-variants.{Pext1, Pext2, Dup, Luti4c, Luti4s, Narrow}
+use Rattle.encoding.specs.declared.Instruction.the-variants.{Pext1, Pext2, Psel, Luti4c, Luti4s, Narrow}
 
 -- ---- reading
 -- raw field i, counted from the highest
@@ -24,16 +24,16 @@ readPext1 xs = Pext1 (8 * 2 ^ raw xs 0) (raw xs 1) (8 + raw xs 2) (raw xs 3)
 abbrev pub readPext2 : List ℕ → Instruction
 readPext2 xs = Pext2 (8 * 2 ^ raw xs 0) (raw xs 1) (8 + raw xs 2) (raw xs 3)
 
--- DUP's i1:tszh:tszl says the size by its low four bits, and the offset by those above the lowest one that is set
-abbrev pub dupOffset : ℕ → ℕ
-dupOffset t = t / 2 ^ (zeros t + 1)
+-- PSEL's i1:tszh:tszl says the size by its low four bits, and the offset by those above the lowest one that is set
+abbrev pub pselOffset : ℕ → ℕ
+pselOffset t = t / 2 ^ (zeros t + 1)
 
-abbrev pub dupBits : List ℕ → ℕ
-dupBits xs = raw xs 0 * 16 + (raw xs 1 * 8 + raw xs 2)
+abbrev pub pselBits : List ℕ → ℕ
+pselBits xs = raw xs 0 * 16 + (raw xs 1 * 8 + raw xs 2)
 
--- i1, tszh, tszl, Rm, Pg, Pn, Pd
-abbrev pub readDup : List ℕ → Instruction
-readDup xs = Dup (sizeOf (dupBits xs)) (dupOffset (dupBits xs)) (12 + raw xs 3) (raw xs 4) (raw xs 5) (raw xs 6)
+-- i1, tszh, tszl, Rv, Pn, Pm, Pd
+abbrev pub readPsel : List ℕ → Instruction
+readPsel xs = Psel (sizeOf (pselBits xs)) (pselOffset (pselBits xs)) (12 + raw xs 3) (raw xs 4) (raw xs 5) (raw xs 6)
 
 -- i1, size, Zn, Zd
 abbrev pub readLuti4c : List ℕ → Instruction
@@ -74,8 +74,8 @@ isZ n = ltb n 32
 abbrev pub pextInRange : ℕ → ℕ → ℕ → ℕ → ℕ → Bool
 pextInRange bound size portion counter pd = isSize size && ltb portion bound && (leb 8 counter && ltb counter 16) && isP pd
 
-abbrev pub dupInRange : ℕ → ℕ → ℕ → ℕ → ℕ → ℕ → Bool
-dupInRange size offset index pg pn pd = isSize size && ltb offset (128 / size) && (leb 12 index && ltb index 16) && (isP pg && isP pn && isP pd)
+abbrev pub pselInRange : ℕ → ℕ → ℕ → ℕ → ℕ → ℕ → Bool
+pselInRange size offset index pn pm pd = isSize size && ltb offset (128 / size) && (leb 12 index && ltb index 16) && (isP pn && isP pm && isP pd)
 
 abbrev pub lutiInRange : Bool → ℕ → ℕ → Bool → Bool
 lutiInRange size i1 zn first = size && ltb i1 2 && isZ zn && first
@@ -86,7 +86,7 @@ narrowInRange size shift zn zd = isResult size && (leb 1 shift && leb shift size
 abbrev pub inRange : Instruction → Bool
 inRange (Pext1 size imm2 counter pd) = pextInRange 4 size imm2 counter pd
 inRange (Pext2 size i1 counter pd) = pextInRange 2 size i1 counter pd
-inRange (Dup size offset index pg pn pd) = dupInRange size offset index pg pn pd
+inRange (Psel size offset index pn pm pd) = pselInRange size offset index pn pm pd
 inRange (Luti4c size i1 zn zd) = lutiInRange (eqb size 16 || eqb size 32) i1 zn (eqb (zd % 4) 0 && leb zd 28)
 inRange (Luti4s size i1 zn zd) = lutiInRange (eqb size 16) i1 zn (ltb zd 4 || (leb 16 zd && ltb zd 20))
 inRange (Narrow op u r t size shift zn zd) = narrowInRange size shift zn zd
@@ -96,11 +96,11 @@ abbrev pub rawPext : ℕ → ℕ → ℕ → ℕ → List ℕ
 rawPext size portion counter pd = logOf size ∷ portion ∷ (counter - 8) ∷ pd ∷ []
 
 -- i1:tszh:tszl
-abbrev pub rawDupBits : ℕ → ℕ → ℕ
-rawDupBits size offset = offset * (size / 4) + size / 8
+abbrev pub rawPselBits : ℕ → ℕ → ℕ
+rawPselBits size offset = offset * (size / 4) + size / 8
 
-abbrev pub rawDup : ℕ → ℕ → ℕ → ℕ → ℕ → List ℕ
-rawDup t index pg pn pd = t / 16 ∷ (t / 8 % 2) ∷ (t % 8) ∷ (index - 12) ∷ pg ∷ pn ∷ pd ∷ []
+abbrev pub rawPsel : ℕ → ℕ → ℕ → ℕ → ℕ → List ℕ
+rawPsel t index pn pm pd = t / 16 ∷ (t / 8 % 2) ∷ (t % 8) ∷ (index - 12) ∷ pn ∷ pm ∷ pd ∷ []
 
 -- tszh:tszl:imm3 is twice the size less the shift
 abbrev pub rawNarrow : Bool → Bool → Bool → Bool → ℕ → ℕ → ℕ → List ℕ
@@ -109,7 +109,7 @@ rawNarrow op u r t v zn zd = v / 32 ∷ (v / 8 % 4) ∷ (v % 8) ∷ digit op ∷
 abbrev pub rawOf : Instruction → List ℕ
 rawOf (Pext1 size imm2 counter pd) = rawPext size imm2 counter pd
 rawOf (Pext2 size i1 counter pd) = rawPext size i1 counter pd
-rawOf (Dup size offset index pg pn pd) = rawDup (rawDupBits size offset) index pg pn pd
+rawOf (Psel size offset index pn pm pd) = rawPsel (rawPselBits size offset) index pn pm pd
 rawOf (Luti4c size i1 zn zd) = i1 ∷ logOf size ∷ zn ∷ (zd / 4) ∷ []
 rawOf (Luti4s size i1 zn zd) = i1 ∷ logOf size ∷ zn ∷ (zd / 16) ∷ (zd % 16) ∷ []
 rawOf (Narrow op u r t size shift zn zd) = rawNarrow op u r t (2 * size - shift) zn zd

@@ -1,4 +1,4 @@
--- Document 01, "Layouts", the last as document 02, request 1, has it: the six rows of the table, each a layout with its features, its field condition, what its fields are read as, and its name.
+-- Document 01, "Layouts", the third and the last as document 02, requests 2 and 1, have them: the six rows of the table, each a layout with its features, its field condition, what its fields are read as, and its name.
 use mathlib.Core.Bool.{Bool, true, not, _&&_, _||_}
 use mathlib.Core.List.{List, [], _∷_}
 use Prim.Native.Nat.{ℕ, _+_, _*_}
@@ -7,10 +7,10 @@ use Rattle.setting.specs.Allowed.{hasAny}
 use Rattle.setting.specs.declared.Feature.{Feature}
 use Rattle.setting.specs.declared.Feature.the-variants.{Sve2, Sve2p1, Sme, Sme2, Sme2p1}
 use Rattle.encoding.specs.Layout.{Piece, fix, var, fieldsOf, matches}
-use Rattle.encoding.specs.Instructions.{raw, readPext1, readPext2, readDup, readLuti4c, readLuti4s, narrowTsz, readNarrow}
+use Rattle.encoding.specs.Instructions.{raw, readPext1, readPext2, readPsel, readLuti4c, readLuti4s, narrowTsz, readNarrow}
 use Rattle.encoding.specs.Names.{narrowName}
 use Rattle.encoding.specs.declared.Instruction.{Instruction}
-use Rattle.encoding.specs.declared.Instruction.the-variants.{Pext1, Pext2, Dup, Luti4c, Luti4s, Narrow}
+use Rattle.encoding.specs.declared.Instruction.the-variants.{Pext1, Pext2, Psel, Luti4c, Luti4s, Narrow}
 
 pub record Row : Type 0 where
   pub layout : List Piece
@@ -43,15 +43,16 @@ pext2 = record {
   name = λ xs. 80 ∷ 69 ∷ 88 ∷ 84 ∷ 50 ∷ [];
 }
 
--- 00100101 <i1> <tszh> 1 <tszl:3> <Rm:2> 01 <Pg:4> 0 <Pn:4> 0 <Pd:4>; tszh:tszl not 0000
-abbrev pub dup : Row
-dup = record {
+-- 00100101 <i1> <tszh> 1 <tszl:3> <Rv:2> 01 <Pn:4> 0 <Pm:4> 0 <Pd:4>; tszh:tszl not 0000
+-- document 01 has a withdrawn draft of it, DUP, and calls Rv there Rm, Pn there Pg, and Pm there Pn
+abbrev pub psel : Row
+psel = record {
   layout = fix 8 0b00100101 ∷ var 1 ∷ var 1 ∷ fix 1 0b1 ∷ var 3 ∷ var 2 ∷ fix 2 0b01 ∷ var 4 ∷ fix 1 0b0 ∷ var 4 ∷ fix 1 0b0 ∷ var 4 ∷ [];
-  features = Sme ∷ [];
+  features = Sme ∷ Sve2p1 ∷ [];
   condition = λ xs. not (eqb (raw xs 1 * 8 + raw xs 2) 0);
-  reading = readDup;
-  -- DUP
-  name = λ xs. 68 ∷ 85 ∷ 80 ∷ [];
+  reading = readPsel;
+  -- PSEL
+  name = λ xs. 80 ∷ 83 ∷ 69 ∷ 76 ∷ [];
 }
 
 -- 1100000010001 01 <i1> 10 <size:2> 00 <Zn:5> <Zd:3> 00; size 01 or 10
@@ -88,13 +89,13 @@ narrow = record {
 }
 
 abbrev pub rows : List Row
-rows = pext1 ∷ pext2 ∷ dup ∷ luti4c ∷ luti4s ∷ narrow ∷ []
+rows = pext1 ∷ pext2 ∷ psel ∷ luti4c ∷ luti4s ∷ narrow ∷ []
 
 -- the row of an instruction's form, and its place in the table, from 0
 abbrev pub rowOf : Instruction → Row
 rowOf (Pext1 size imm2 counter pd) = pext1
 rowOf (Pext2 size i1 counter pd) = pext2
-rowOf (Dup size offset index pg pn pd) = dup
+rowOf (Psel size offset index pn pm pd) = psel
 rowOf (Luti4c size i1 zn zd) = luti4c
 rowOf (Luti4s size i1 zn zd) = luti4s
 rowOf (Narrow op u r t size shift zn zd) = narrow
@@ -102,7 +103,7 @@ rowOf (Narrow op u r t size shift zn zd) = narrow
 abbrev pub placeOf : Instruction → ℕ
 placeOf (Pext1 size imm2 counter pd) = 0
 placeOf (Pext2 size i1 counter pd) = 1
-placeOf (Dup size offset index pg pn pd) = 2
+placeOf (Psel size offset index pn pm pd) = 2
 placeOf (Luti4c size i1 zn zd) = 3
 placeOf (Luti4s size i1 zn zd) = 4
 placeOf (Narrow op u r t size shift zn zd) = 5

@@ -21,12 +21,12 @@ pub enum Instruction {
         counter: u32,
         pd: u32,
     },
-    Dup {
+    Psel {
         size: u32,
         offset: u32,
         index: u32,
-        pg: u32,
         pn: u32,
+        pm: u32,
         pd: u32,
     },
     Luti4c {
@@ -72,7 +72,7 @@ pub fn place(instruction: Instruction) -> usize
     match instruction {
         Instruction::Pext1 { .. } => 0,
         Instruction::Pext2 { .. } => 1,
-        Instruction::Dup { .. } => 2,
+        Instruction::Psel { .. } => 2,
         Instruction::Luti4c { .. } => 3,
         Instruction::Luti4s { .. } => 4,
         Instruction::Narrow { .. } => 5,

@@ -32,7 +32,7 @@ pub const NAMES: usize = 22;
 
 // Each in 16 bytes, as it follows a word's digits in a listing, and how long that is.
 pub const NAME_TEXTS: [u8; 16 * NAMES] =
-    *b" PEXT1\n......... PEXT2\n......... DUP\n........... LUTI4C\n........ LUTI4S\n........ \
+    *b" PEXT1\n......... PEXT2\n......... PSEL\n.......... LUTI4C\n........ LUTI4S\n........ \
         SQSHRUNB\n...... SQSHRUNT\n...... SQRSHRUNB\n..... SQRSHRUNT\n..... \
         SHRNB\n......... SHRNT\n......... RSHRNB\n........ RSHRNT\n........ \
         SQSHRNB\n....... SQSHRNT\n....... SQRSHRNB\n...... SQRSHRNT\n...... \
@@ -42,7 +42,7 @@ pub const NAME_TEXTS: [u8; 16 * NAMES] =
 pub const NAME_LENGTHS: [usize; NAMES] = [
     7,
     7,
-    5,
+    6,
     8,
     8,
     10,
@@ -91,7 +91,7 @@ fn feature_bits(place: usize) -> u32
     match place {
         0 => 0b01010,
         1 => 0b01010,
-        2 => 0b00100,
+        2 => 0b00110,
         3 => 0b01000,
         4 => 0b10000,
         5 => 0b00101,

@@ -19,7 +19,7 @@ use setting::Setting;
 pub fn interface_version() -> u32
     ensures { λ r. ⌜ r ≡ interfaceVersion ⌝ }
 {
-    2
+    3
 }
 
 // The number of a reading, and its fields in a list of seven.

@@ -1,4 +1,4 @@
--- DUP's size by its log, as its bits say it: a test over the values of the low four.
+-- PSEL's size by its log, as its bits say it: a test over the values of the low four.
 use mathlib.Core.Path.{_≡_}
 use mathlib.Core.Bool.{Bool}
 use Prim.Native.Nat.{ℕ, _*_, _%_, _^_}

@@ -7,7 +7,7 @@ ghost use Rattle.encoding.specs.Instructions.{narrowSize};
 ghost use Rattle.encoding.specs.Rows.{rows};
 ghost use Rattle.encoding.specs.Decode.{readAt};
 ghost use Rattle.encoding.specs.declared.Instruction.the-variants.{Pext1, Pext2, Luti4c, Luti4s};
-ghost use Rattle.fields.specs.Operands.{dupAs, narrowAs};
+ghost use Rattle.fields.specs.Operands.{pselAs, narrowAs};
 
 // The fields of PEXT and LUTI4, the size by its log too; the immediate is a portion or i1.
 pub struct Operands {
@@ -18,13 +18,13 @@ pub struct Operands {
     pub destination: u32,
 }
 
-// DUP's, whose size is 8 · 2^log; a log of 4 or more is none.
-pub struct DupOperands {
+// PSEL's, whose size is 8 · 2^log; a log of 4 or more is none.
+pub struct PselOperands {
     pub log: u32,
     pub offset: u32,
     pub index: u32,
-    pub pg: u32,
     pub pn: u32,
+    pub pm: u32,
     pub pd: u32,
 }
 
@@ -48,8 +48,8 @@ fn element_size(log: u32) -> u32
     8 << log
 }
 
-// DUP's tszh:tszl.
-fn dup_tsz(word: u32) -> u32
+// PSEL's tszh:tszl.
+fn psel_tsz(word: u32) -> u32
     ensures { λ r. ⌜ r ≡ word / 0x400000 % 2 * 8 + word / 0x40000 % 8 ⌝ }
 {
     word / 0x400000 % 2 * 8 + word / 0x40000 % 8
@@ -118,19 +118,19 @@ fn above_lowest(bits: u32, log: u32) -> u32
     0
 }
 
-pub fn dup(word: u32) -> DupOperands
-    ensures { λ r. ⌜ accept (dupAs r) ≡ readAt rows 2 word ⌝ }
+pub fn psel(word: u32) -> PselOperands
+    ensures { λ r. ⌜ accept (pselAs r) ≡ readAt rows 2 word ⌝ }
 {
-    let bits = word / 0x800000 % 2 * 16 + dup_tsz(word);
+    let bits = word / 0x800000 % 2 * 16 + psel_tsz(word);
     let log = element::log_of_field(bits);
     let offset = above_lowest(bits, log);
     let index = 12 + word / 0x10000 % 4;
-    DupOperands {
+    PselOperands {
         log,
         offset,
         index,
-        pg: word / 0x400 % 16,
-        pn: word / 32 % 16,
+        pn: word / 0x400 % 16,
+        pm: word / 32 % 16,
         pd: word % 16,
     }
 }

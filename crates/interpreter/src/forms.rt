@@ -53,7 +53,7 @@ fn index_register(w12: u32, w13: u32, w14: u32, w15: u32, number: u32) -> u32
     if number < 14 { low } else { high }
 }
 
-pub(crate) fn dup(
+pub(crate) fn psel(
     p: &mut [u8],
     setting: Setting,
     w12: u32,
@@ -65,9 +65,9 @@ pub(crate) fn dup(
 ) -> Answer
     ensures { λ r. ⌜ PredicateWord 2 setting word (HasWV w12 w13 w14 w15 v) r (now (p .entry)) (now (p .exit)) ⌝ }
 {
-    let o = fields::dup(word);
+    let o = fields::psel(word);
     let w = index_register(w12, w13, w14, w15, o.index);
-    words::dup(p, setting.vl, v, w, o.log, o.offset, o.pg, o.pn, o.pd)
+    words::psel(p, setting.vl, v, w, o.log, o.offset, o.pn, o.pm, o.pd)
 }
 
 // ---- the vectors

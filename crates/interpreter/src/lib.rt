@@ -96,7 +96,7 @@ fn step_in_run(
     match place {
         0 => forms::pext1(p, setting, scalars.v, scalars.s, word),
         1 => forms::pext2(p, setting, scalars.v, scalars.s, word),
-        2 => forms::dup(
+        2 => forms::psel(
             p,
             setting,
             scalars.w12,

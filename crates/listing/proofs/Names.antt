@@ -14,7 +14,7 @@ use Rattle.encoding.specs.Rows.{rows}
 use Rattle.encoding.specs.Places.{placeIn}
 use Rattle.encoding.specs.Decode.{decodeOf}
 use Rattle.encoding.specs.declared.Instruction.{Instruction}
-use Rattle.encoding.specs.declared.Instruction.the-variants.{Pext1, Pext2, Dup, Luti4c, Luti4s, Narrow}
+use Rattle.encoding.specs.declared.Instruction.the-variants.{Pext1, Pext2, Psel, Luti4c, Luti4s, Narrow}
 use Rattle.encoding.proofs.Round.{place-lt}
 use Rattle.encoding.proofs.FourBits.{FourBits, four-bits}
 use Rattle.encoding.specs.Named.{nameIn}
@@ -54,7 +54,7 @@ flags-named true true true true = refl
 named : (w : ℕ) (o : Outcome Instruction) → ((i : Instruction) → o ≡ accept i → FourBits w i) → (nameAt (indexOf (placeIn o) (w / 0x400 % 16)) ≡ nameIn o) × (indexOf (placeIn o) (w / 0x400 % 16) ≤ length names)
 named w (accept (Pext1 size imm2 counter pd)) f = (refl, omega arith)
 named w (accept (Pext2 size i1 counter pd)) f = (refl, omega arith)
-named w (accept (Dup size offset index pg pn pd)) f = (refl, omega arith)
+named w (accept (Psel size offset index pn pm pd)) f = (refl, omega arith)
 named w (accept (Luti4c size i1 zn zd)) f = (refl, omega arith)
 named w (accept (Luti4s size i1 zn zd)) f = (refl, omega arith)
 named w (accept (Narrow op u r t size shift zn zd)) f = let e = f (Narrow op u r t size shift zn zd) refl in (ap (λ (n : ℕ). nameAt (5 + (n + 0))) e ∙ flags-named op u r t, omega arith)

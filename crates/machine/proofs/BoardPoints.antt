@@ -1,4 +1,4 @@
--- The starred cases: the crates' own lists as proved there, the rest of 10 by computing, joined by a law on lists of facts.
+-- The starred cases: the crates' own lists as proved there, the rest of 10 by computing, joined by a law on lists of facts; and the points beside them.
 use mathlib.Core.Path.{refl}
 use mathlib.Core.List.{List, [], _∷_, _++_}
 use lib.Count.{trailingZeros}
@@ -15,10 +15,10 @@ use Rattle.counter.specs.Points.{counterPoints}
 use Rattle.counter.proofs.BoardPoints.{counter-points}
 use Rattle.pext.specs.Points.{pextPoints}
 use Rattle.pext.proofs.BoardPoints.{pext-points}
-use Rattle.dup.specs.Dup.{indexOf, valueOf, dupBit, dupOf}
-use Rattle.dup.specs.Points.{dupPoints}
-use Rattle.dup.proofs.BoardPoints.{dup-points}
-use Rattle.machine.specs.Points.{elementPoints, narrowTouches, starred}
+use Rattle.psel.specs.Psel.{indexOf, valueOf, pselOf}
+use Rattle.psel.specs.Points.{pselPoints}
+use Rattle.psel.proofs.BoardPoints.{psel-points}
+use Rattle.machine.specs.Points.{elementPoints, pselWords, narrowTouches, starred}
 
 pub narrow-touches : Every narrowTouches
 unfolding decodeOf allowedOf
@@ -29,12 +29,16 @@ every-append [] Bs x y = y
 every-append (A ∷ As) Bs x y = (x .0, every-append As Bs (x .1) y)
 
 element-points : Every elementPoints
-unfolding decodeOf allowedOf sizeOf trailingZeros dupOf dupBit valueOf indexOf packed fill bytes octet gather field
+unfolding decodeOf allowedOf sizeOf trailingZeros pselOf valueOf indexOf packed fill bytes octet gather field
 element-points = (refl, (refl, (refl, tt)))
+
+pub psel-words : Every pselWords
+unfolding decodeOf allowedOf sizeOf trailingZeros pselOf valueOf indexOf packed fill bytes octet gather field
+psel-words = (refl, (refl, (refl, (refl, tt))))
 
 pub starred-points : Every starred
 starred-points =
-    every-append readingPoints (narrowPoints ++ (counterPoints ++ (pextPoints ++ (dupPoints ++ elementPoints)))) reading-points
-    (every-append narrowPoints (counterPoints ++ (pextPoints ++ (dupPoints ++ elementPoints))) narrow-points
-    (every-append counterPoints (pextPoints ++ (dupPoints ++ elementPoints)) counter-points
-    (every-append pextPoints (dupPoints ++ elementPoints) pext-points (every-append dupPoints elementPoints dup-points element-points))))
+    every-append readingPoints (narrowPoints ++ (counterPoints ++ (pextPoints ++ (pselPoints ++ elementPoints)))) reading-points
+    (every-append narrowPoints (counterPoints ++ (pextPoints ++ (pselPoints ++ elementPoints))) narrow-points
+    (every-append counterPoints (pextPoints ++ (pselPoints ++ elementPoints)) counter-points
+    (every-append pextPoints (pselPoints ++ elementPoints) pext-points (every-append pselPoints elementPoints psel-points element-points))))

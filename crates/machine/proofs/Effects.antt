@@ -16,9 +16,9 @@ use Rattle.order.specs.Banks.{Register}
 use Rattle.order.specs.Touch.{puts}
 use Rattle.encoding.specs.Instructions.{inRange}
 use Rattle.encoding.specs.declared.Instruction.{Instruction}
-use Rattle.encoding.specs.declared.Instruction.the-variants.{Pext1, Pext2, Dup, Luti4c, Luti4s, Narrow}
+use Rattle.encoding.specs.declared.Instruction.the-variants.{Pext1, Pext2, Psel, Luti4c, Luti4s, Narrow}
 use Rattle.encoding.proofs.FieldBits.{strided-zd}
-use Rattle.encoding.proofs.InRange.{pext-ranges, dup-ranges, luti-ranges, narrow-ranges}
+use Rattle.encoding.proofs.InRange.{pext-ranges, psel-ranges, luti-ranges, narrow-ranges}
 use Rattle.machine.specs.Machine.{Machine, Z, ZT0, put, Flags}
 use Rattle.machine.specs.Needs.{Need, need}
 use Rattle.machine.specs.Narrow.{narrowReads}
@@ -74,11 +74,11 @@ fine (Pext2 size i1 counter pd) = record {
   contents-only = λ vl cs m. refl;
   known = λ e. let g = pext-ranges 2 size i1 counter pd e in let next : (pd + 1) % 16 < 16 = omega arith in search (g .counter-lt, g .pd-lt, next);
 }
-fine (Dup size offset index pg pn pd) = record {
+fine (Psel size offset index pn pm pd) = record {
   refused-small = λ s f. tt;
   writes-some = omega arith;
   contents-only = λ vl cs m. refl;
-  known = λ e. let g = dup-ranges size offset index pg pn pd e in let w : index - 12 < 4 = omega (arith, g .index-ge, g .index-lt) in search (g .pg-lt, g .pn-lt, w, g .pd-lt);
+  known = λ e. let g = psel-ranges size offset index pn pm pd e in let w : index - 12 < 4 = omega (arith, g .index-ge, g .index-lt) in search (g .pn-lt, g .pm-lt, w, g .pd-lt);
 }
 fine (Luti4c size i1 zn zd) = record {
   refused-small = λ s f. tt;

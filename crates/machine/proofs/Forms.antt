@@ -15,10 +15,10 @@ use Rattle.encoding.specs.Rows.{rows}
 use Rattle.encoding.specs.Places.{placeFirst}
 use Rattle.encoding.specs.Decode.{firstOf, readAt}
 use Rattle.encoding.specs.declared.Instruction.{Instruction}
-use Rattle.encoding.specs.declared.Instruction.the-variants.{Pext1, Pext2, Dup, Luti4c, Luti4s, Narrow}
+use Rattle.encoding.specs.declared.Instruction.the-variants.{Pext1, Pext2, Psel, Luti4c, Luti4s, Narrow}
 use Rattle.encoding.proofs.Choice.{read-past, first-is-read}
 use Rattle.pext.specs.Pext.{pextLeaves}
-use Rattle.dup.specs.Dup.{dupLeaves}
+use Rattle.psel.specs.Psel.{pselLeaves}
 use Rattle.lookup.specs.Calls.{luti4File}
 use Rattle.narrowing.specs.Calls.{narrowFile}
 use Rattle.machine.specs.Machine.{Machine, machine, flagsOf}
@@ -28,7 +28,7 @@ use Rattle.machine.specs.Step.{Step, stepOf, stepAs}
 use Rattle.machine.specs.Private.{Ready, Known, PredicateWord, VectorWord, TablelessWord, HasV, HasVS, HasST, HasWV, doneOf, executedOf, movedBy}
 use Rattle.machine.specs.declared.Scalars.{Scalars}
 use Rattle.machine.proofs.Steps.{refused-for, done-for, step-executes, step-ready, step-undefined}
-use Rattle.machine.proofs.Operations.{pext1-done, pext2-done, dup-done, luti4c-done, luti4s-done, narrow-done}
+use Rattle.machine.proofs.Operations.{pext1-done, pext2-done, psel-done, luti4c-done, luti4s-done, narrow-done}
 
 -- ---- what a known row reads is what the word is read as
 first-at : (s : Setting) (w k : ℕ) (o : Outcome Instruction) → k ≡ placeFirst rows (s .features) w → readAt rows k w ≡ o → firstOf rows (s .features) w ≡ o
@@ -71,11 +71,11 @@ module _ (s : Setting) (w : ℕ) (r : Answer) (p p′ : List ℕ) where
         on-predicates s w 1 _ e z p zt c known p′ _ (numberOf r) (rw (has .0, has .1) answer) q
         (pext2-done z p _ zt c (s .vl) size immediate counter pd (ready s w 1 _ e z p zt c known) refl)
 
-  pub dup-word : (w12 w13 w14 w15 : ℕ) (v : Bool) (x size offset index pg pn pd : ℕ) → numberOf r ≡ pick v 0 4 → readAt rows 2 w ≡ accept (Dup size offset index pg pn pd)
-      → x ≡ getD (w12 ∷ w13 ∷ w14 ∷ w15 ∷ []) (index - 12) 0 → p′ ≡ ifDone (numberOf r) (dupLeaves (s .vl) size x offset pg pn pd p) p → PredicateWord 2 s w (HasWV w12 w13 w14 w15 v) r p p′
-  dup-word w12 w13 w14 w15 v x size offset index pg pn pd answer e i q z zt c has known =
+  pub psel-word : (w12 w13 w14 w15 : ℕ) (v : Bool) (x size offset index pn pm pd : ℕ) → numberOf r ≡ pick v 0 4 → readAt rows 2 w ≡ accept (Psel size offset index pn pm pd)
+      → x ≡ getD (w12 ∷ w13 ∷ w14 ∷ w15 ∷ []) (index - 12) 0 → p′ ≡ ifDone (numberOf r) (pselLeaves (s .vl) size x offset pn pm pd p) p → PredicateWord 2 s w (HasWV w12 w13 w14 w15 v) r p p′
+  psel-word w12 w13 w14 w15 v x size offset index pn pm pd answer e i q z zt c has known =
       on-predicates s w 2 _ e z p zt c known p′ _ (numberOf r) (rw (has .4) answer) q
-      (dup-done z p _ zt c (s .vl) size offset index pg pn pd x (ready s w 2 _ e z p zt c known) (rw (has .0, has .1, has .2, has .3) i) refl)
+      (psel-done z p _ zt c (s .vl) size offset index pn pm pd x (ready s w 2 _ e z p zt c known) (rw (has .0, has .1, has .2, has .3) i) refl)
 
 module _ (s : Setting) (w : ℕ) (r : Answer) (z z′ : List ℕ) where
   module _ (zt : List ℕ) (f t : Bool) (size i1 zn zd : ℕ) (answer : numberOf r ≡ pick f (pick t 0 6) 5) where

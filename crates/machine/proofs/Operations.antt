@@ -14,14 +14,14 @@ use Rattle.element.specs.Files.{vectorFile, predicateFile, tableFile}
 use Rattle.element.specs.Size.{isSize}
 use Rattle.element.specs.Slots.{slot}
 use Rattle.order.specs.Touch.{gets, puts}
-use Rattle.encoding.specs.Instructions.{inRange, pextInRange, dupInRange, narrowInRange}
+use Rattle.encoding.specs.Instructions.{inRange, pextInRange, pselInRange, narrowInRange}
 use Rattle.element.proofs.Tests.{both-yes}
 use Rattle.element.proofs.Units.{size-cases}
 use Rattle.encoding.proofs.FieldBits.{strided-zd}
-use Rattle.encoding.proofs.InRange.{pext-ranges, dup-ranges, luti-ranges, narrow-ranges}
-use Rattle.encoding.specs.declared.Instruction.the-variants.{Pext1, Pext2, Dup, Luti4c, Luti4s, Narrow}
+use Rattle.encoding.proofs.InRange.{pext-ranges, psel-ranges, luti-ranges, narrow-ranges}
+use Rattle.encoding.specs.declared.Instruction.the-variants.{Pext1, Pext2, Psel, Luti4c, Luti4s, Narrow}
 use Rattle.pext.specs.Pext.{pextReady, pextSlots, pextLeaves}
-use Rattle.dup.specs.Dup.{dupReady, dupLeaves}
+use Rattle.psel.specs.Psel.{pselReady, pselLeaves}
 use Rattle.lookup.specs.Lookup.{lutiFile}
 use Rattle.lookup.specs.Calls.{luti4Ready, luti4File}
 use Rattle.narrowing.specs.Registers.{placed, element, narrowOf}
@@ -42,12 +42,12 @@ pext-ready bound size portion counter pd first n vl e h l a =
     let g = pext-ranges bound size portion counter pd e in
     rw (a, size-of-pext bound size portion counter pd e, h, le-leb (first + n) 4 l, lt-ltb counter 16 (g .counter-lt), lt-ltb pd 16 (g .pd-lt))
 
-dup-ready : (size offset index pg pn pd vl : ℕ) → dupInRange size offset index pg pn pd ≡ true → lengthAllowed vl ≡ true → dupReady predicateFile vl size offset pg pn pd ≡ true
-unfolding dupReady
-dup-ready size offset index pg pn pd vl e a =
-    let g = dup-ranges size offset index pg pn pd e in
-    let h = both-yes (isSize size) (ltb offset (128 / size)) (both-yes (isSize size && ltb offset (128 / size)) (leb 12 index && ltb index 16) (both-yes (isSize size && ltb offset (128 / size) && (leb 12 index && ltb index 16)) (ltb pg 16 && ltb pn 16 && ltb pd 16) e .0) .0) in
-    rw (a, h .0, lt-ltb offset 16 (offset-lt size offset (h .0) (ltb-true offset (128 / size) (h .1))), lt-ltb pg 16 (g .pg-lt), lt-ltb pn 16 (g .pn-lt), lt-ltb pd 16 (g .pd-lt))
+psel-ready : (size offset index pn pm pd vl : ℕ) → pselInRange size offset index pn pm pd ≡ true → lengthAllowed vl ≡ true → pselReady predicateFile vl size offset pn pm pd ≡ true
+unfolding pselReady
+psel-ready size offset index pn pm pd vl e a =
+    let g = psel-ranges size offset index pn pm pd e in
+    let h = both-yes (isSize size) (ltb offset (128 / size)) (both-yes (isSize size && ltb offset (128 / size)) (leb 12 index && ltb index 16) (both-yes (isSize size && ltb offset (128 / size) && (leb 12 index && ltb index 16)) (ltb pn 16 && ltb pm 16 && ltb pd 16) e .0) .0) in
+    rw (a, h .0, lt-ltb offset 16 (offset-lt size offset (h .0) (ltb-true offset (128 / size) (h .1))), lt-ltb pn 16 (g .pn-lt), lt-ltb pm 16 (g .pm-lt), lt-ltb pd 16 (g .pd-lt))
   where
     offset-lt : (n o : ℕ) → isSize n ≡ true → o < 128 / n → o < 16
     offset-lt n o h l = size-cases (λ n. (k : ℕ) → k < 128 / n → k < 16) (λ k l. l) (λ k l. omega arith) (λ k l. omega arith) (λ k l. omega arith) n h o l
@@ -106,14 +106,14 @@ module _ (z p p′ zt : List ℕ) (s : Scalars) (vl : ℕ) where
       let d : (pd + 0) % 16 ≡ pd = omega (arith, g .pd-lt) in
       rw (e, r .predicates, pext-ready 2 size i1 counter pd (2 * i1) 2 vl (r .range) refl (omega (arith, g .portion-lt)) (r .length), d, add-zero (2 * i1))
 
-  pub dup-done : (size offset index pg pn pd w : ℕ) → Ready (length z) (length p) (length zt) vl (Dup size offset index pg pn pd)
-      → w ≡ getD (s .w12 ∷ s .w13 ∷ s .w14 ∷ s .w15 ∷ []) (index - 12) 0 → p′ ≡ dupLeaves vl size w offset pg pn pd p
-      → machine z p′ zt s ≡ doneOf vl (Dup size offset index pg pn pd) (machine z p zt s)
-  unfolding doneOf gets puts get put dupLeaves
-  dup-done size offset index pg pn pd w r q e =
-      let g = dup-ranges size offset index pg pn pd (r .range) in
+  pub psel-done : (size offset index pn pm pd w : ℕ) → Ready (length z) (length p) (length zt) vl (Psel size offset index pn pm pd)
+      → w ≡ getD (s .w12 ∷ s .w13 ∷ s .w14 ∷ s .w15 ∷ []) (index - 12) 0 → p′ ≡ pselLeaves vl size w offset pn pm pd p
+      → machine z p′ zt s ≡ doneOf vl (Psel size offset index pn pm pd) (machine z p zt s)
+  unfolding doneOf gets puts get put pselLeaves
+  psel-done size offset index pn pm pd w r q e =
+      let g = psel-ranges size offset index pn pm pd (r .range) in
       let k : index - 12 < 4 = omega (arith, g .index-ge, g .index-lt) in
-      rw (e, r .predicates, dup-ready size offset index pg pn pd vl (r .range) (r .length), q, one-of-four (index - 12) (s .w12) (s .w13) (s .w14) (s .w15) k)
+      rw (e, r .predicates, psel-ready size offset index pn pm pd vl (r .range) (r .length), q, one-of-four (index - 12) (s .w12) (s .w13) (s .w14) (s .w15) k)
 
 module _ (z z′ p zt : List ℕ) (s : Scalars) (vl : ℕ) where
   -- a B word's leaf may see the old Zd, but takes nothing of it

@@ -2,7 +2,7 @@ pub mod Machine
 pub mod Needs
 pub mod Effect
 pub mod Pext
-pub mod Dup
+pub mod Psel
 pub mod Luti4
 pub mod Narrow
 pub mod Effects

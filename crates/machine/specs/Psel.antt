@@ -1,16 +1,16 @@
--- DUP, whose row is `dup`: Pg's elements where the chosen element of Pn is true, else none.
+-- PSEL, whose row is `psel`: all of Pn if the chosen element of Pm is true, else zeros.
 use mathlib.Core.List.{[], _∷_}
 use Prim.Native.Nat.{ℕ, _+_}
 use lib.ListN.{getD}
-use Rattle.dup.specs.Dup.{dupOf}
+use Rattle.psel.specs.Psel.{pselOf}
 use Rattle.machine.specs.Machine.{P, W}
 use Rattle.machine.specs.Needs.{need}
 use Rattle.machine.specs.Effect.{Effect, contents}
 
-abbrev pub dupEffect : ℕ → ℕ → ℕ → ℕ → ℕ → ℕ → Effect
-dupEffect size offset index pg pn pd = record {
+abbrev pub pselEffect : ℕ → ℕ → ℕ → ℕ → ℕ → ℕ → Effect
+pselEffect size offset index pn pm pd = record {
   needs = λ s f. need 4 (f .v) ∷ [];
-  reads = P pg ∷ P pn ∷ W index ∷ [];
+  reads = P pn ∷ P pm ∷ W index ∷ [];
   writes = P pd ∷ [];
-  gives = λ vl cs. dupOf vl size (getD (contents cs 2) 0 0 + offset) (contents cs 0) (contents cs 1) ∷ [];
+  gives = λ vl cs. pselOf vl size (getD (contents cs 2) 0 0 + offset) (contents cs 0) (contents cs 1) ∷ [];
 }

@@ -8,7 +8,7 @@ use borrow.Author.Tests.{eq-eqb, ne-eqb}
 use Rattle.setting.specs.Numbers.{Outcome, accept, refuse}
 use Rattle.encoding.specs.Instructions.{narrowNumber}
 use Rattle.encoding.specs.declared.Instruction.{Instruction}
-use Rattle.encoding.specs.declared.Instruction.the-variants.{Pext1, Pext2, Dup, Luti4c, Luti4s, Narrow}
+use Rattle.encoding.specs.declared.Instruction.the-variants.{Pext1, Pext2, Psel, Luti4c, Luti4s, Narrow}
 use Rattle.element.proofs.Spelled.{spelled}
 use Rattle.numbers.specs.Fields.{numbersOf, numbersInto, narrowAt, instructionAt, instructionOf}
 use Rattle.numbers.specs.Claims.{NumbersRead, FiveUnused}
@@ -17,7 +17,7 @@ use Rattle.numbers.specs.Claims.{NumbersRead, FiveUnused}
 seven : (i : Instruction) → length (numbersOf i) ≡ 7
 seven (Pext1 size imm2 counter pd) = refl
 seven (Pext2 size i1 counter pd) = refl
-seven (Dup size offset index pg pn pd) = refl
+seven (Psel size offset index pn pm pd) = refl
 seven (Luti4c size i1 zn zd) = refl
 seven (Luti4s size i1 zn zd) = refl
 seven (Narrow op u r t size shift zn zd) = refl
@@ -49,7 +49,7 @@ pub numbers-read : NumbersRead
 unfolding instructionOf
 numbers-read (Pext1 size imm2 counter pd) = refl
 numbers-read (Pext2 size i1 counter pd) = refl
-numbers-read (Dup size offset index pg pn pd) = refl
+numbers-read (Psel size offset index pn pm pd) = refl
 numbers-read (Luti4c size i1 zn zd) = refl
 numbers-read (Luti4s size i1 zn zd) = refl
 numbers-read (Narrow op u r t size shift zn zd) = flags-read op u r t size shift zn zd

@@ -7,13 +7,13 @@ use Rattle.setting.specs.Numbers.{Outcome, accept, refuse}
 use Rattle.logic.specs.Pick.{pick}
 use Rattle.encoding.specs.Instructions.{isSet, narrowNumber}
 use Rattle.encoding.specs.declared.Instruction.{Instruction}
-use Rattle.encoding.specs.declared.Instruction.the-variants.{Pext1, Pext2, Dup, Luti4c, Luti4s, Narrow}
+use Rattle.encoding.specs.declared.Instruction.the-variants.{Pext1, Pext2, Psel, Luti4c, Luti4s, Narrow}
 
 -- ---- reading
 abbrev pub numbersOf : Instruction → List ℕ
 numbersOf (Pext1 size imm2 counter pd) = 0 ∷ size ∷ imm2 ∷ counter ∷ pd ∷ 0 ∷ 0 ∷ []
 numbersOf (Pext2 size i1 counter pd) = 1 ∷ size ∷ i1 ∷ counter ∷ pd ∷ 0 ∷ 0 ∷ []
-numbersOf (Dup size offset index pg pn pd) = 2 ∷ size ∷ offset ∷ index ∷ pg ∷ pn ∷ pd ∷ []
+numbersOf (Psel size offset index pn pm pd) = 2 ∷ size ∷ offset ∷ index ∷ pn ∷ pm ∷ pd ∷ []
 numbersOf (Luti4c size i1 zn zd) = 3 ∷ size ∷ i1 ∷ zn ∷ zd ∷ 0 ∷ 0 ∷ []
 numbersOf (Luti4s size i1 zn zd) = 4 ∷ size ∷ i1 ∷ zn ∷ zd ∷ 0 ∷ 0 ∷ []
 numbersOf (Narrow op u r t size shift zn zd) = 6 ∷ narrowNumber op u r t ∷ size ∷ shift ∷ zn ∷ zd ∷ 0 ∷ []
@@ -33,7 +33,7 @@ abbrev pub instructionAt : ℕ → ℕ → ℕ → ℕ → ℕ → ℕ → ℕ �
 instructionAt form a b c d e f =
     pick (eqb form 0) (accept (Pext1 a b c d))
     (pick (eqb form 1) (accept (Pext2 a b c d))
-    (pick (eqb form 2) (accept (Dup a b c d e f))
+    (pick (eqb form 2) (accept (Psel a b c d e f))
     (pick (eqb form 3) (accept (Luti4c a b c d))
     (pick (eqb form 4) (accept (Luti4s a b c d))
     (pick (eqb form 6) (narrowAt a b c d e)

@@ -27,14 +27,14 @@ fn numbers(instruction: Instruction) -> [u32; 7]
             counter,
             pd,
         } => [1, size, i1, counter, pd, 0, 0],
-        Instruction::Dup {
+        Instruction::Psel {
             size,
             offset,
             index,
-            pg,
             pn,
+            pm,
             pd,
-        } => [2, size, offset, index, pg, pn, pd],
+        } => [2, size, offset, index, pn, pm, pd],
         Instruction::Luti4c { size, i1, zn, zd } => [3, size, i1, zn, zd, 0, 0],
         Instruction::Luti4s { size, i1, zn, zd } => [4, size, i1, zn, zd, 0, 0],
         Instruction::Narrow {
@@ -112,12 +112,12 @@ fn named(form: u32, a: u32, b: u32, c: u32, d: u32, e: u32, f: u32) -> Decoded
             counter: c,
             pd: d,
         }),
-        2 => Decoded::Fields(Instruction::Dup {
+        2 => Decoded::Fields(Instruction::Psel {
             size: a,
             offset: b,
             index: c,
-            pg: d,
-            pn: e,
+            pn: d,
+            pm: e,
             pd: f,
         }),
         3 => luti4(false, a, b, c, d),

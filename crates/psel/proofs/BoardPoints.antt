@@ -1,9 +1,14 @@
--- The starred case of DUP's element: it computes.
+-- The starred case of PSEL's element and the points beside it: each computes.
 use mathlib.Core.Path.{refl}
 use Rattle.logic.specs.Every.{Every}
-use Rattle.dup.specs.Dup.{indexOf}
-use Rattle.dup.specs.Points.{dupPoints}
+use Rattle.element.specs.Contents.{bytes, field, fill, gather, octet, packed}
+use Rattle.psel.specs.Psel.{indexOf, valueOf, pselOf}
+use Rattle.psel.specs.Points.{pselPoints, wholePoints}
 
-pub dup-points : Every dupPoints
+pub psel-points : Every pselPoints
 unfolding indexOf
-dup-points = (refl, tt)
+psel-points = (refl, tt)
+
+pub whole-points : Every wholePoints
+unfolding pselOf valueOf indexOf packed fill bytes octet gather field
+whole-points = (refl, (refl, tt))

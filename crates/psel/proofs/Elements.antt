@@ -1,28 +1,26 @@
--- DUP byte by byte is DUP bit by bit, and its adder with a mask is the sum modulo the number of elements: once over the length and the size.
-use mathlib.Core.Path.{_≡_, refl, sym, ap, ap₂, _∙_}
-use mathlib.Core.Bool.{Bool, true, false, _&&_, and-comm, and-true, and-false}
+-- PSEL byte by byte is all of Pn or zeros, and its adder with a mask is the sum modulo the number of elements: once over the length and the size.
+use mathlib.Core.Path.{_≡_, refl, sym, ap, _∙_}
+use mathlib.Core.Bool.{Bool, true, false}
 use mathlib.Core.List.{List}
-use Prim.Native.Nat.{ℕ, _+_, _-_, _*_, _/_, _%_, _^_, _≤_, _<_}
+use Prim.Native.Nat.{ℕ, zero, suc, _+_, _-_, _*_, _/_, _%_, _^_, _≤_, _<_}
 use native.Mathlib.Nat.{mod-eq-of-lt}
 use native.Mathlib.Omega.{arith}
 use lib.Bits.{bitAnd, and-zero-r, and-mask}
-use lib.Dec.{eqb, lit≤}
+use lib.Dec.{lit≤}
 use lib.ListN.{length, take, drop, getD}
 use lib.Pow.{pow-pos, pow-add, mod-mod-pow, shr-shr, shl-shr}
-use lib.Seq.{take-take}
+use lib.Seq.{take-take, take-suc, take-all}
 use Rattle.setting.specs.Allowed.{lengthAllowed}
 use Rattle.setting.proofs.Lengths.{length-cases}
 use Rattle.part.proofs.Lengths.{lengths-of}
 use Rattle.logic.specs.Pick.{pick}
-use Rattle.element.specs.Units.{patternOf}
 use Rattle.element.specs.Private.{Log}
-use Rattle.element.specs.Contents.{bit, fill, gather, octet, packed}
-use Rattle.element.proofs.Digits.{and-gather, octet-bits, pattern-bits}
-use Rattle.element.proofs.Filling.{turn, gather-same, same, packed-length}
+use Rattle.element.specs.Contents.{bit, bytes, fill, gather, octet, packed}
+use Rattle.element.proofs.Filling.{turn, same, packed-length}
 use Rattle.element.specs.Slots.{slot}
 use Rattle.element.proofs.Slots.{reach, slot-part}
 use Rattle.element.proofs.Units.{unit, whole, unit-of, elements}
-use Rattle.dup.specs.Dup.{indexOf, valueOf, dupBit, dupOf}
+use Rattle.psel.specs.Psel.{indexOf, valueOf, pselOf}
 
 -- an allowed length is a power of two
 record Power (vl : ℕ) : Type 0 where
@@ -76,27 +74,29 @@ slot-low size n m k f l h =
     rw (← slot-part size m k f h, ← slot-part size n k f (omega arith), reach, reach) (take-take n m (drop (size * k) f) l)
 
 -- the value, as the code has it
-pub value-is : (vl size sum z : ℕ) (pn : List ℕ) → Log size z → bit (sum % (vl / 8 / 2 ^ z) * 2 ^ z) pn ≡ valueOf vl size sum pn
+pub value-is : (vl size sum z : ℕ) (pm : List ℕ) → Log size z → bit (sum % (vl / 8 / 2 ^ z) * 2 ^ z) pm ≡ valueOf vl size sum pm
 unfolding valueOf indexOf
-value-is vl size sum z pn l = rw (elements vl l, unit-of l)
+value-is vl size sum z pm l = rw (elements vl l, unit-of l)
 
-pub dup-length : (vl size sum : ℕ) (pg pn : List ℕ) → length (dupOf vl size sum pg pn) ≡ vl / 64
-unfolding dupOf
-dup-length vl size sum pg pn = packed-length (dupBit size (valueOf vl size sum pn) pg) (vl / 64)
+pub psel-length : (vl size sum : ℕ) (pn pm : List ℕ) → length pn ≡ vl / 64 → length (pselOf vl size sum pn pm) ≡ vl / 64
+unfolding pselOf
+psel-length vl size sum pn pm l = pick-length (valueOf vl size sum pm)
+  where
+    pick-length : (v : Bool) → length (pick v pn (packed (λ b. false) (vl / 64))) ≡ vl / 64
+    pick-length true = l
+    pick-length false = packed-length (λ b. false) (vl / 64)
 
-module _ (pg : List ℕ) (small : (k : ℕ) → getD pg k 0 < 256) (size z : ℕ) (l : Log size z) where
-  dup-byte : (k : ℕ) (v : Bool) → bitAnd (getD pg k 0) (pick v (patternOf z) 0) ≡ octet (dupBit size v pg) k
-  unfolding octet dupBit gather
-  dup-byte k true =
-      ap₂ bitAnd (sym (octet-bits pg k (small k))) (pattern-bits z k (l .small))
-      ∙ and-gather (λ b. bit b pg) (λ b. eqb (b % 2 ^ z) 0) 8 (8 * k)
-      ∙ gather-same (λ b. bit b pg && eqb (b % 2 ^ z) 0) (dupBit size true pg) 8 (8 * k) (8 * k)
-      (λ j h. rw (unit-of l, and-true (bit (8 * k + j) pg)) (and-comm (bit (8 * k + j) pg) (eqb ((8 * k + j) % 2 ^ z) 0)))
-  dup-byte k false =
-      and-zero-r (getD pg k 0)
-      ∙ gather-same (λ (b : ℕ). false) (dupBit size false pg) 8 (8 * k) (8 * k)
-      (λ j h. rw (and-false (bit (8 * k + j) pg), and-false (eqb ((8 * k + j) % (size / 8)) 0)))
+-- the first n bytes, one by one
+taken : (s : List ℕ) → ((k : ℕ) → getD s k 0 < 256) → (n : ℕ) → n ≤ length s → fill (λ k. getD s k 0) 1 n ≡ take n s
+unfolding fill bytes
+taken s small zero h = refl
+taken s small (suc n) h = rw (taken s small n (omega arith), mod-eq-of-lt (small n)) (sym (take-suc s n 0 (omega arith)))
 
-  pub dup-packed : (n m : ℕ) (v : Bool) → m ≡ pick v (patternOf z) 0 → fill (λ k. bitAnd (getD pg k 0) m) 1 n ≡ packed (dupBit size v pg) n
-  unfolding packed
-  dup-packed n m v e = same (λ k. bitAnd (getD pg k 0) m) (octet (dupBit size v pg)) 1 n (λ k h. rw e (dup-byte k v))
+-- under 255 a byte stays, under 0 nothing of it does
+pub all-or-none : (s : List ℕ) → ((k : ℕ) → getD s k 0 < 256) → (n m : ℕ) (v : Bool) → length s ≡ n → m ≡ pick v 255 0
+    → fill (λ k. bitAnd (getD s k 0) m) 1 n ≡ pick v s (packed (λ b. false) n)
+unfolding packed octet gather
+all-or-none s small n m true l e =
+    same (λ k. bitAnd (getD s k 0) m) (λ k. getD s k 0) 1 n (λ k h. rw e (and-mask (getD s k 0) 8 ∙ mod-eq-of-lt (small k)))
+    ∙ taken s small n (omega arith) ∙ take-all n s (omega arith)
+all-or-none s small n m false l e = same (λ k. bitAnd (getD s k 0) m) (octet (λ b. false)) 1 n (λ k h. rw e (and-zero-r (getD s k 0)))

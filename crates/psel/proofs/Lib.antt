@@ -1,3 +1,3 @@
+pub mod BoardPoints
 pub mod Ready
 pub mod Elements
-pub mod BoardPoints

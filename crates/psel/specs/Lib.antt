@@ -1,3 +1,3 @@
-pub mod Dup
+pub mod Psel
 pub mod Private
 pub mod Points

@@ -12,12 +12,12 @@ pub record ElementReady (vl log room : ℕ) : Type 0 where
   pub sized : log < 4
   pub whole : room ≡ vl / 64
 
--- the file and DUP's registers in it
-pub record DuplicateReady (bytes vl log pg pn pd : ℕ) : Type 0 where
+-- the file and PSEL's registers in it
+pub record SelectReady (bytes vl log pn pm pd : ℕ) : Type 0 where
   pub file : bytes ≡ predicateFile
   pub allowed : lengthAllowed vl ≡ true
   pub length : Lengths vl
   pub sized : log < 4
-  pub governing : pg < 16
-  pub source : pn < 16
+  pub copied : pn < 16
+  pub chosen : pm < 16
   pub to : pd < 16

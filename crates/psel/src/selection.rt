@@ -1,6 +1,6 @@
-// DUP on contents: one element of Pn decides what is left of Pg.
+// PSEL on contents: one element of Pm decides whether all of Pn is copied or nothing.
 ghost use mathlib.Core.Path.{_≡_};
-ghost use mathlib.Core.Bool.{true};
+ghost use mathlib.Core.Bool.{true, false};
 ghost use Prim.Native.Nat.{_+_, _*_, _/_, _%_, _^_, _<_};
 ghost use lib.ListN.{length, getD};
 ghost use lib.Bits.{bitAnd};
@@ -8,8 +8,8 @@ ghost use Rattle.setting.specs.Allowed.{lengthAllowed};
 ghost use Rattle.logic.specs.Pick.{pick};
 ghost use Rattle.element.specs.Units.{sizeAt};
 ghost use Rattle.element.specs.Contents.{fill, packed, bit};
-ghost use Rattle.dup.specs.Dup.{valueOf, dupBit};
-ghost use Rattle.dup.specs.Private.{ElementReady};
+ghost use Rattle.psel.specs.Psel.{valueOf};
+ghost use Rattle.psel.specs.Private.{ElementReady};
 
 // Bit i of a predicate.
 fn test(s: &[u8], i: usize) -> bool
@@ -30,13 +30,13 @@ fn chosen(vl: u32, z: u32, w: u32, offset: u32) -> u32
     std::num::wrapping_add_u32(w, offset) & (n - 1)
 }
 
-// The chosen element of Pn.
-pub(crate) fn value(pn: &[u8], vl: u32, log: u32, w: u32, offset: u32) -> bool
-    requires { ⌜ ElementReady vl log (length (now pn)) ⌝ }
-    ensures { λ r. ⌜ r ≡ valueOf vl (sizeAt log) (w + offset) (now (pn .entry)) ⌝ }
+// The chosen element of Pm.
+pub(crate) fn value(pm: &[u8], vl: u32, log: u32, w: u32, offset: u32) -> bool
+    requires { ⌜ ElementReady vl log (length (now pm)) ⌝ }
+    ensures { λ r. ⌜ r ≡ valueOf vl (sizeAt log) (w + offset) (now (pm .entry)) ⌝ }
 {
     let i = chosen(vl, log, w, offset) << log;
-    test(pn, i as usize)
+    test(pm, i as usize)
 }
 
 // Each byte under a pattern.
@@ -51,16 +51,17 @@ fn masked(s: &[u8], m: u8, o: &mut [u8])
     }
 }
 
-fn kept(v: bool, m: u8) -> u8
-    ensures { λ r. ⌜ r ≡ pick v m 0 ⌝ }
+// The pattern that keeps every bit of a byte, or none.
+fn kept(v: bool) -> u8
+    ensures { λ r. ⌜ r ≡ pick v 255 0 ⌝ }
 {
-    if v { m } else { 0 }
+    if v { 255 } else { 0 }
 }
 
-// At each element's bit Pg's, if the value is true.
-pub(crate) fn spread(pg: &[u8], v: bool, log: u32, o: &mut [u8])
-    requires { ⌜ (log < 4) × (length (now pg) ≡ length (now o)) ⌝ }
-    ensures { λ _. ⌜ now (o .exit) ≡ packed (dupBit (sizeAt log) v (now (pg .entry))) (length (now (o .entry))) ⌝ }
+// All of Pn, if the value is true, else zeros; no branch, so that no value is to be foreseen.
+pub(crate) fn copied_if(v: bool, pn: &[u8], o: &mut [u8])
+    requires { ⌜ length (now pn) ≡ length (now o) ⌝ }
+    ensures { λ _. ⌜ now (o .exit) ≡ pick v (now (pn .entry)) (packed (λ b. false) (length (now (o .entry)))) ⌝ }
 {
-    masked(pg, kept(v, element::pattern_of(log)), o);
+    masked(pn, kept(v), o);
 }

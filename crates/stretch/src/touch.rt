@@ -94,14 +94,14 @@ fn touch_of(instruction: Instruction) -> Touch
             predicate(counter),
             predicate(pd) | predicate((pd + 1) % 16),
         ),
-        Instruction::Dup {
+        Instruction::Psel {
             index,
-            pg,
             pn,
+            pm,
             pd,
             ..
         } => join(
-            predicate(pg) | (predicate(pn) | scalar(index)),
+            predicate(pn) | (predicate(pm) | scalar(index)),
             predicate(pd),
         ),
         Instruction::Luti4c { zn, zd, .. } => join(vector(zn) | ZT0, four_vectors(zd, 1)),

@@ -10,7 +10,7 @@ ghost use Rattle.setting.specs.Numbers.{numberOf};
 ghost use Rattle.setting.specs.declared.Feature.the-variants.{Sve2p1};
 ghost use Rattle.element.specs.Units.{sizeAt};
 ghost use Rattle.pext.specs.Pext.{pextLeaves};
-ghost use Rattle.dup.specs.Dup.{dupLeaves};
+ghost use Rattle.psel.specs.Psel.{pselLeaves};
 ghost use Rattle.lookup.specs.Calls.{luti4File};
 ghost use Rattle.narrowing.specs.Calls.{narrowFile};
 ghost use Rattle.machine.specs.Needs.{need, firstFailed, ifDone};
@@ -38,25 +38,25 @@ pub fn pext(
     Answer::Done
 }
 
-pub fn dup(
+pub fn psel(
     p: &mut [u8],
     vl: u32,
     v: bool,
     w: u32,
     log: u32,
     offset: u32,
-    pg: u32,
     pn: u32,
+    pm: u32,
     pd: u32,
 ) -> Answer
     ensures answer { λ r. ⌜ numberOf r ≡ pick v 0 4 ⌝ }
-    ensures file { λ r. ⌜ now (p .exit) ≡ ifDone (numberOf r) (dupLeaves vl (sizeAt log) w offset pg pn pd (now (p .entry))) (now (p .entry)) ⌝ }
+    ensures file { λ r. ⌜ now (p .exit) ≡ ifDone (numberOf r) (pselLeaves vl (sizeAt log) w offset pn pm pd (now (p .entry))) (now (p .entry)) ⌝ }
 {
     let answer = access::vectors(v);
     if setting::number(answer) != 0 {
         return answer;
     }
-    dup::dup(p, vl, log, w, offset, pg, pn, pd);
+    psel::psel(p, vl, log, w, offset, pn, pm, pd);
     Answer::Done
 }
 

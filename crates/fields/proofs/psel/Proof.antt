@@ -1,16 +1,16 @@
--- `dup` meets its contract: each field is a digit of the word, and the size's log is the number of the size field's trailing zeros.
+-- `psel` meets its contract: each field is a digit of the word, and the size's log is the number of the size field's trailing zeros.
 use Prim.Native.Nat.{_+_, _*_, _/_, _%_}
 use native.Mathlib.Nat.{div-one}
 use Rattle.fields.proofs.Logs.{size-by-log}
 use borrow.Author.Needs.{needs}
-use Rattle.fields.proofs.dup.Statement.{statement}
-use Rattle.fields.proofs.dup.Tie as tie
+use Rattle.fields.proofs.psel.Statement.{statement}
+use Rattle.fields.proofs.psel.Tie as tie
 
 mul-bits : tie.Need-mul-bits
 mul-bits c = search needs
 
-dup-tsz-requires : tie.Need-dup-tsz-requires
-dup-tsz-requires c κs = search needs
+psel-tsz-requires : tie.Need-psel-tsz-requires
+psel-tsz-requires c κs = search needs
 
 add-bits : tie.Need-add-bits
 add-bits c = search needs
@@ -28,8 +28,8 @@ returns : tie.Need-returns
 returns c =
     let w = c .before .before .before .args .word in
     let t = w / 0x400000 % 2 * 8 + w / 0x40000 % 8 in
-    rw (c .above-lowest .ensures, c .before .log-of-field .ensures, c .before .before .dup-tsz .ensures, size-by-log (w / 0x800000 % 2 * 16 + t), div-one w)
+    rw (c .above-lowest .ensures, c .before .log-of-field .ensures, c .before .before .psel-tsz .ensures, size-by-log (w / 0x800000 % 2 * 16 + t), div-one w)
 
-pub dup-spec : {M : Type 1} → statement M
-dup-spec =
-    tie.close (tie.spec mul-bits dup-tsz-requires add-bits log-of-field-requires above-lowest-requires add-index returns)
+pub psel-spec : {M : Type 1} → statement M
+psel-spec =
+    tie.close (tie.spec mul-bits psel-tsz-requires add-bits log-of-field-requires above-lowest-requires add-index returns)

@@ -17,8 +17,8 @@ pext1-requires c κs = search needs
 pext2-requires : tie.Need-pext2-requires
 pext2-requires c κs = search needs
 
-dup-requires : tie.Need-dup-requires
-dup-requires c κs = search needs
+psel-requires : tie.Need-psel-requires
+psel-requires c κs = search needs
 
 luti4c-requires : tie.Need-luti4c-requires
 luti4c-requires c κs = search needs
@@ -45,7 +45,7 @@ same-length-3 : tie.Need-same-length-3
 same-length-3 c = search needs
 
 returns-3 : tie.Need-returns-3
-returns-3 c = let b = c .before .before .before .before in c .before .before .dup .ensures _ _ _ (refl, refl, refl, refl, refl) (record { checked = b .before .before .before .before .before .pre; place = sym (b .match .keys3) ∙ b .before .place .ensures })
+returns-3 c = let b = c .before .before .before .before in c .before .before .psel .ensures _ _ _ (refl, refl, refl, refl, refl) (record { checked = b .before .before .before .before .before .pre; place = sym (b .match .keys3) ∙ b .before .place .ensures })
 
 same-length-4 : tie.Need-same-length-4
 same-length-4 c = search needs
@@ -75,7 +75,7 @@ step-in-run-spec =
     place-requires
     pext1-requires
     pext2-requires
-    dup-requires
+    psel-requires
     luti4c-requires
     luti4s-requires
     narrow-requires

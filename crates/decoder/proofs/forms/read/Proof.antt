@@ -20,11 +20,11 @@ pext2-requires c κs = search needs
 pext2-requires-2 : tie.Need-pext2-requires-2
 pext2-requires-2 c κs = search needs
 
-dup-requires : tie.Need-dup-requires
-dup-requires c κs = search needs
+psel-requires : tie.Need-psel-requires
+psel-requires c κs = search needs
 
-dup-requires-2 : tie.Need-dup-requires-2
-dup-requires-2 c κs = search needs
+psel-requires-2 : tie.Need-psel-requires-2
+psel-requires-2 c κs = search needs
 
 luti4c-requires : tie.Need-luti4c-requires
 luti4c-requires c κs = search needs
@@ -51,7 +51,7 @@ returns-2 : tie.Need-returns-2
 returns-2 c = rw (c .before .before .match .keys2) (c .pext22 .ensures ∙ c .before .pext2 .ensures .0)
 
 returns-3 : tie.Need-returns-3
-returns-3 c = rw (c .before .before .match .keys3) (c .dup2 .ensures ∙ c .before .dup .ensures)
+returns-3 c = rw (c .before .before .match .keys3) (c .psel2 .ensures ∙ c .before .psel .ensures)
 
 returns-4 : tie.Need-returns-4
 returns-4 c = rw (c .before .before .match .keys4) (c .luti4c2 .ensures ∙ c .before .luti4c .ensures .0)
@@ -73,8 +73,8 @@ read-spec =
     pext1-requires-2
     pext2-requires
     pext2-requires-2
-    dup-requires
-    dup-requires-2
+    psel-requires
+    psel-requires-2
     luti4c-requires
     luti4c-requires-2
     luti4s-requires

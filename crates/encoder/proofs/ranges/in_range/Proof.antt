@@ -18,8 +18,8 @@ pext-requires-2 c κs = search needs
 enum-known-instruction-3 : tie.Need-enum-known-instruction-3
 enum-known-instruction-3 c = search needs
 
-dup-requires : tie.Need-dup-requires
-dup-requires c κs = search needs
+psel-requires : tie.Need-psel-requires
+psel-requires c κs = search needs
 
 enum-known-instruction-4 : tie.Need-enum-known-instruction-4
 enum-known-instruction-4 c = search needs
@@ -46,7 +46,7 @@ returns-2 : tie.Need-returns-2
 returns-2 c = rw (c .before .before .instruction2 .given .1) (c .pext2 .ensures)
 
 returns-3 : tie.Need-returns-3
-returns-3 c = rw (c .before .before .instruction3 .given .1) (c .dup .ensures)
+returns-3 c = rw (c .before .before .instruction3 .given .1) (c .psel .ensures)
 
 returns-4 : tie.Need-returns-4
 returns-4 c = rw (c .before .before .instruction4 .given .1) (c .luti .ensures)
@@ -66,7 +66,7 @@ in-range-spec =
     enum-known-instruction-2
     pext-requires-2
     enum-known-instruction-3
-    dup-requires
+    psel-requires
     enum-known-instruction-4
     luti-requires
     enum-known-instruction-5

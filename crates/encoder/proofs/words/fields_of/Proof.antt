@@ -1,7 +1,7 @@
 -- `fields_of` meets its contract: in each arm the instruction is known, its fields are in range, and with its fixed bits the sum is its layout's word.
 use lib.Dec.{lit≤}
-use Rattle.encoding.proofs.InRange.{dup-ranges, known-range}
-use Rattle.encoder.proofs.WordLaws.{known-word, pext-asks, luti4c-asks, luti4s-asks, narrow-asks, pext1-sum, pext2-sum, dup-sum, luti4c-sum, luti4s-sum, narrow-sum}
+use Rattle.encoding.proofs.InRange.{psel-ranges, known-range}
+use Rattle.encoder.proofs.WordLaws.{known-word, pext-asks, luti4c-asks, luti4s-asks, narrow-asks, pext1-sum, pext2-sum, psel-sum, luti4c-sum, luti4s-sum, narrow-sum}
 use borrow.Author.Needs.{needs}
 use Rattle.encoder.proofs.words.fields_of.Statement.{statement}
 use Rattle.encoder.proofs.words.fields_of.Tie as tie
@@ -27,15 +27,15 @@ pext-requires-2 c κs = pext-asks 2 (c .before .before .instruction2 .given .0 .
 enum-known-instruction-3 : tie.Need-enum-known-instruction-3
 enum-known-instruction-3 c = search needs
 
-dup-bits-requires : tie.Need-dup-bits-requires
-dup-bits-requires c κs =
+psel-bits-requires : tie.Need-psel-bits-requires
+psel-bits-requires c κs =
     let g = c .before .instruction3 .given .0 in
-    dup-ranges (g .0) (g .1 .0) (g .1 .1 .0) (g .1 .1 .1 .0) (g .1 .1 .1 .1 .0) (g .1 .1 .1 .1 .1 .0) (known-range (c .before .instruction3 .given .1) (c .before .before .before .pre)) .bits .lt
+    psel-ranges (g .0) (g .1 .0) (g .1 .1 .0) (g .1 .1 .1 .0) (g .1 .1 .1 .1 .0) (g .1 .1 .1 .1 .1 .0) (known-range (c .before .instruction3 .given .1) (c .before .before .before .pre)) .bits .lt
 
-dup-requires : tie.Need-dup-requires
-dup-requires c κs =
-    let r = dup-ranges _ _ _ _ _ _ (known-range (c .before .before .instruction3 .given .1) (c .before .before .before .before .pre)) in
-    (rw (c .dup-bits .ensures) (r .bits .lt), r .index-ge, r .index-lt, r .pg-lt, r .pn-lt, r .pd-lt)
+psel-requires : tie.Need-psel-requires
+psel-requires c κs =
+    let r = psel-ranges _ _ _ _ _ _ (known-range (c .before .before .instruction3 .given .1) (c .before .before .before .before .pre)) in
+    (rw (c .psel-bits .ensures) (r .bits .lt), r .index-ge, r .index-lt, r .pn-lt, r .pm-lt, r .pd-lt)
 
 enum-known-instruction-4 : tie.Need-enum-known-instruction-4
 enum-known-instruction-4 c = search needs
@@ -73,7 +73,7 @@ returns-2 : tie.Need-returns-2
 returns-2 c = known-word _ (c .before .before .before .instruction2 .given .1) (pext2-sum (c .before .before .before .instruction2 .given .0 .0) _ _ _ _ _ (c .before .log-of2 .ensures) (c .pext2 .ensures))
 
 returns-3 : tie.Need-returns-3
-returns-3 c = known-word _ (c .before .before .before .instruction3 .given .1) (dup-sum _ _ _ _ _ _ _ _ (c .before .dup-bits .ensures) (c .dup .ensures))
+returns-3 c = known-word _ (c .before .before .before .instruction3 .given .1) (psel-sum _ _ _ _ _ _ _ _ (c .before .psel-bits .ensures) (c .psel .ensures))
 
 returns-4 : tie.Need-returns-4
 returns-4 c = known-word _ (c .before .before .before .instruction4 .given .1) (luti4c-sum (c .before .before .before .instruction4 .given .0 .0) _ _ _ _ _ (known-range (c .before .before .before .instruction4 .given .1) (c .before .before .before .before .before .pre)) (c .before .log-of3 .ensures) (c .luti .ensures))
@@ -97,8 +97,8 @@ fields-of-spec =
     log-of-requires-2
     pext-requires-2
     enum-known-instruction-3
-    dup-bits-requires
-    dup-requires
+    psel-bits-requires
+    psel-requires
     enum-known-instruction-4
     log-of-requires-3
     luti-requires

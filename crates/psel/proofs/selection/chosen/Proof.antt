@@ -4,10 +4,10 @@ use Prim.Native.Nat.{ℕ, _+_, _-_, _/_, _%_, _^_}
 use native.Mathlib.Nat.{mod-lt}
 use native.Mathlib.Omega.{arith}
 use lib.Bits.{bitAnd}
-use Rattle.dup.proofs.Elements.{some-elements, adder}
+use Rattle.psel.proofs.Elements.{some-elements, adder}
 use borrow.Author.Needs.{needs}
-use Rattle.dup.proofs.governed.chosen.Statement.{statement}
-use Rattle.dup.proofs.governed.chosen.Tie as tie
+use Rattle.psel.proofs.selection.chosen.Statement.{statement}
+use Rattle.psel.proofs.selection.chosen.Tie as tie
 
 shr-n : tie.Need-shr-n
 shr-n c = search needs

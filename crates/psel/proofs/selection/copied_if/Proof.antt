@@ -1,17 +1,10 @@
--- `spread` meets its contract: each byte under the size's pattern, or under none, is DUP's.
-use mathlib.Core.Path.{ap, _∙_}
-use Prim.Native.Nat.{ℕ}
+-- `copied_if` meets its contract: each byte under the pattern of every bit, or of none.
+use mathlib.Core.Path.{_∙_}
 use lib.ListN.{length}
-use Rattle.logic.specs.Pick.{pick}
-use Rattle.element.specs.Units.{sizeAt}
-use Rattle.element.proofs.Units.{at-log}
-use Rattle.dup.proofs.Elements.{dup-packed}
+use Rattle.psel.proofs.Elements.{all-or-none}
 use borrow.Author.Needs.{needs}
-use Rattle.dup.proofs.governed.spread.Statement.{statement}
-use Rattle.dup.proofs.governed.spread.Tie as tie
-
-pattern-of-requires : tie.Need-pattern-of-requires
-pattern-of-requires c κs = search needs
+use Rattle.psel.proofs.selection.copied_if.Statement.{statement}
+use Rattle.psel.proofs.selection.copied_if.Tie as tie
 
 kept-requires : tie.Need-kept-requires
 kept-requires c κs = search needs
@@ -25,18 +18,9 @@ same-length c = search needs
 returns : tie.Need-returns
 returns c =
     let k = c .before .before .before .before in
-    let s = k .before .before .before .before in
-    let a = s .args in
+    let s = k .before .before .before in
     c .before .before .masked .ensures
-    ∙ dup-packed (a .pg .now) (λ j. k .before .before .before .shared-slice-known .given j .fits) (sizeAt (a .log)) (a .log) (at-log (a .log) (s .pre .0)) (length (a .o .now)) (k .kept .result) (a .v)
-    (k .kept .ensures ∙ ap (λ (m : ℕ). pick (a .v) m 0) (k .before .pattern-of .ensures))
+    ∙ all-or-none (s .args .pn .now) (λ j. k .before .before .shared-slice-known .given j .fits) (length (s .args .o .now)) (k .kept .result) (s .args .v) (s .pre) (k .kept .ensures)
 
-pub spread-spec : {M : Type 1} → statement M
-spread-spec =
-    tie.close
-    (tie.spec
-    pattern-of-requires
-    kept-requires
-    masked-requires
-    same-length
-    returns)
+pub copied-if-spec : {M : Type 1} → statement M
+copied-if-spec = tie.close (tie.spec kept-requires masked-requires same-length returns)

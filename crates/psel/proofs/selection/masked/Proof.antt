@@ -1,4 +1,4 @@
--- `masked` meets its contract: the bytes before k are Pg's under the pattern, the others as they were.
+-- `masked` meets its contract: the bytes before k are Pn's under the pattern, the others as they were.
 use mathlib.Core.Path.{_≡_, refl, _∙_}
 use mathlib.Core.List.{_++_}
 use Prim.Native.Nat.{ℕ, _-_, _≤_}
@@ -7,8 +7,8 @@ use lib.ListN.{length, drop, getD, length-set}
 use lib.Bits.{bitAnd, and-le-l}
 use Rattle.element.specs.Contents.{fill}
 use Rattle.element.proofs.Filling.{store, stored}
-use Rattle.dup.proofs.governed.masked.Statement.{statement}
-use Rattle.dup.proofs.governed.masked.Tie as tie
+use Rattle.psel.proofs.selection.masked.Statement.{statement}
+use Rattle.psel.proofs.selection.masked.Tie as tie
 
 abbrev Inv-loop : tie.InvT-loop
 Inv-loop s m o₀ k₀ o k = (k ≤ length o₀) × ((length o ≡ length o₀) × (o ≡ fill (λ (j : ℕ). bitAnd (getD s j 0) m) 1 k ++ drop k o₀))

@@ -2,8 +2,8 @@
 use mathlib.Core.Path.{sym}
 use Rattle.element.proofs.Digits.{bit-is}
 use borrow.Author.Needs.{needs}
-use Rattle.dup.proofs.governed.test.Statement.{statement}
-use Rattle.dup.proofs.governed.test.Tie as tie
+use Rattle.psel.proofs.selection.test.Statement.{statement}
+use Rattle.psel.proofs.selection.test.Tie as tie
 
 shared-slice-read-x : tie.Need-shared-slice-read-x
 shared-slice-read-x c = search needs

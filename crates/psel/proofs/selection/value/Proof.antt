@@ -4,10 +4,10 @@ use Prim.Native.Nat.{ℕ, _+_, _*_, _^_}
 use Rattle.element.specs.Contents.{bit}
 use Rattle.element.specs.Units.{sizeAt}
 use Rattle.element.proofs.Units.{at-log}
-use Rattle.dup.proofs.Elements.{inside, place-fits, value-is}
+use Rattle.psel.proofs.Elements.{inside, place-fits, value-is}
 use borrow.Author.Needs.{needs}
-use Rattle.dup.proofs.governed.value.Statement.{statement}
-use Rattle.dup.proofs.governed.value.Tie as tie
+use Rattle.psel.proofs.selection.value.Statement.{statement}
+use Rattle.psel.proofs.selection.value.Tie as tie
 
 chosen-requires : tie.Need-chosen-requires
 chosen-requires c κs = search needs
@@ -31,8 +31,8 @@ returns c =
     let a = s .args in
     let i = c .before .chosen in
     c .test .ensures
-    ∙ ap (λ (n : ℕ). bit n (a .pn .now)) (place-fits (a .vl) (a .log) (s .pre .sized) (s .pre .allowed) (i .result) (i .ensures .1) ∙ ap (λ (n : ℕ). n * 2 ^ a .log) (i .ensures .0))
-    ∙ value-is (a .vl) (sizeAt (a .log)) (a .w + a .offset) (a .log) (a .pn .now) (at-log (a .log) (s .pre .sized))
+    ∙ ap (λ (n : ℕ). bit n (a .pm .now)) (place-fits (a .vl) (a .log) (s .pre .sized) (s .pre .allowed) (i .result) (i .ensures .1) ∙ ap (λ (n : ℕ). n * 2 ^ a .log) (i .ensures .0))
+    ∙ value-is (a .vl) (sizeAt (a .log)) (a .w + a .offset) (a .log) (a .pm .now) (at-log (a .log) (s .pre .sized))
 
 pub value-spec : {M : Type 1} → statement M
 value-spec = tie.close (tie.spec chosen-requires shl-i cast-test test-requires returns)

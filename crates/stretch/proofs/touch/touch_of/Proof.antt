@@ -1,6 +1,6 @@
 -- `touch_of` meets its contract: in each arm the instruction is known, its fields are in range, and the bits are those of its page.
 use native.Mathlib.Omega.{arith}
-use Rattle.encoding.proofs.InRange.{dup-ranges, known-range}
+use Rattle.encoding.proofs.InRange.{psel-ranges, known-range}
 use Rattle.stretch.proofs.Known.{known-as}
 use Rattle.stretch.proofs.TouchBits.{last-bit, next-bit, table-bit, touch-is}
 use borrow.Author.Needs.{needs}
@@ -50,7 +50,7 @@ scalar-requires : tie.Need-scalar-requires
 scalar-requires c κs =
     let r = c .before .before .before in
     let g = r .instruction3 .given .0 in
-    let d = dup-ranges (g .0) (g .1 .0) (g .1 .1 .0) (g .1 .1 .1 .0) (g .1 .1 .1 .1 .0) (g .1 .1 .1 .1 .1 .0) (known-range (r .instruction3 .given .1) (r .before .before .pre)) in
+    let d = psel-ranges (g .0) (g .1 .0) (g .1 .1 .0) (g .1 .1 .1 .0) (g .1 .1 .1 .1 .0) (g .1 .1 .1 .1 .1 .0) (known-range (r .instruction3 .given .1) (r .before .before .pre)) in
     (d .index-ge, d .index-lt)
 
 predicate-requires-8 : tie.Need-predicate-requires-8
