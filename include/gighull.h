@@ -24,7 +24,7 @@ extern "C" {
 /* The version of this interface: of the functions, and of the numbers that go in and come out. Each change of it raises
  * the number; what stood here before there was one counts as 1. The constant is what a program was compiled against,
  * the function what it is linked with: where the two differ, the program should not go on. */
-#define GIGHULL_INTERFACE_VERSION 2
+#define GIGHULL_INTERFACE_VERSION 3
 uint32_t gighull_interface_version(void);
 
 /* W12 to W15, PC, and the access flags: V, S and T. */
@@ -76,7 +76,7 @@ uint32_t gighull_permitted(uint32_t vl, uint32_t features, const uint32_t *words
  *
  *   0 PEXT1     size imm2 counter Pd 0 0          3 LUTI4C    size i1 Zn Zd 0 0
  *   1 PEXT2     size i1 counter Pd 0 0            4 LUTI4S    size i1 Zn Zd 0 0
- *   2 DUP       size offset index Pg Pn Pd        6 narrowing number size shift Zn Zd 0
+ *   2 PSEL      size offset index Pn Pm Pd        6 narrowing number size shift Zn Zd 0
  *
  * The number of a narrowing word is its bits 13 to 10, op:U:R:T, as one number:
  *
@@ -85,7 +85,8 @@ uint32_t gighull_permitted(uint32_t vl, uint32_t features, const uint32_t *words
  *   2 SQRSHRUNB      6 RSHRNB     10 SQRSHRNB     14 UQRSHRNB
  *   3 SQRSHRUNT      7 RSHRNT     11 SQRSHRNT     15 UQRSHRNT
  *
- * (a word's name is in its line of gighull_lines). Form 5 was UQRSHRNB alone, in version 1, and is not used again.
+ * (a word's name is in its line of gighull_lines). Form 5 was UQRSHRNB alone, in version 1, and is not used again. Up to
+ * version 2 the same numbers of form 2 were another operation, of a draft of the manual that was withdrawn.
  * `fields` stays as it was where the answer is not 0, and where its length is not 7 (the answer is the same). */
 uint32_t gighull_decode(uint32_t vl, uint32_t features, uint32_t word, uint32_t *fields, size_t fields_len);
 

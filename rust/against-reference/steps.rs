@@ -87,16 +87,16 @@ fn destinations_that_are_sources() {
         for _ in 0..200 {
             let p = random.below(16);
             let z = random.below(32);
-            let dup = matching_word(&mut random, Form::Dup);
+            let psel = matching_word(&mut random, Form::Psel);
             let lookup = matching_word(&mut random, Form::Luti4c);
             let strided = matching_word(&mut random, Form::Luti4s);
             let narrow = matching_word(&mut random, Form::Narrow);
             let pext = random.pick(&[Form::Pext1, Form::Pext2]);
             let pext = matching_word(&mut random, pext);
             for word in [
-                dup & !0x3c0f | p << 10 | p,
-                dup & !0x1ef | p << 5 | p,
-                dup & !0x3def | p << 10 | p << 5 | p,
+                psel & !0x3c0f | p << 10 | p,
+                psel & !0x1ef | p << 5 | p,
+                psel & !0x3def | p << 10 | p << 5 | p,
                 lookup & !0x3fc | z << 5 | z & 28,
                 strided & !0x3f3 | z << 5 | z & 19,
                 narrow & !0x3ff | z << 5 | z,
@@ -142,7 +142,14 @@ fn damaged_lengths() {
 fn every_setting() {
     for features in (0..300).chain([65567, 1 << 31, u32::MAX]) {
         for vl in [0, 64, 127, 128, 192, 256, 512, 1024, 2048, 4096, 65664] {
-            for word in [0x2520_7010, 0xc09a_9000, 0x4528_3800, 0x4528_2c00, 0] {
+            for word in [
+                0x2520_7010,
+                0x25e0_4000,
+                0xc09a_9000,
+                0x4528_3800,
+                0x4528_2c00,
+                0,
+            ] {
                 same_step(Setting { vl, features }, word, &mut Machine::zero());
             }
         }

@@ -15,9 +15,9 @@ pub fn touch(instruction: Instruction) -> Touch {
     let (reads, writes) = match instruction {
         Instruction::Pext1 { counter, pd, .. } => (vec![P(counter)], vec![P(pd)]),
         Instruction::Pext2 { counter, pd, .. } => (vec![P(counter)], vec![P(pd), P((pd + 1) % 16)]),
-        Instruction::Dup {
-            index, pg, pn, pd, ..
-        } => (vec![P(pg), P(pn), W(index)], vec![P(pd)]),
+        Instruction::Psel {
+            index, pn, pm, pd, ..
+        } => (vec![P(pn), P(pm), W(index)], vec![P(pd)]),
         Instruction::Luti4c { zn, zd, .. } => {
             (vec![Z(zn), Zt0], (0..4).map(|r| Z(zd + r)).collect())
         }

@@ -30,7 +30,12 @@ impl Views {
         }
         for word in lesson.words.iter().take(words) {
             if let Ok(instruction) = decode(setting, word.word) {
-                let new = written(instruction);
+                // PSEL copies Pn whole: its size is that of Pm's elements.
+                let copied = match instruction {
+                    Instruction::Psel { pn, .. } => given.get(&Register::P(pn)).copied(),
+                    _ => None,
+                };
+                let new = copied.unwrap_or_else(|| written(instruction));
                 let registers = touch(instruction).writes;
                 given.extend(registers.into_iter().map(|register| (register, new)));
             }
@@ -78,7 +83,7 @@ fn written(instruction: Instruction) -> Given {
         }
         Instruction::Pext1 { size, .. }
         | Instruction::Pext2 { size, .. }
-        | Instruction::Dup { size, .. }
+        | Instruction::Psel { size, .. }
         | Instruction::Luti4c { size, .. }
         | Instruction::Luti4s { size, .. } => (size, false),
     };

@@ -68,7 +68,7 @@ pub fn encode(arguments: &[&str]) -> Result<String, Failure> {
         let example = "gighull encode SQRSHRNT size=16 shift=3 zn=1 zd=2";
         return Err(failure(format!("which form? {example}")));
     };
-    let form = word::form(name).ok_or_else(|| {
+    let form = word::form(name).map_err(failure)?.ok_or_else(|| {
         let name = quoted(name);
         failure(format!("{name} is no form: {}", word::names()))
     })?;

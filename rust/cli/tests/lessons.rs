@@ -34,7 +34,7 @@ fn stored_outputs_are_the_reference_s() {
         assert_eq!(found.steps, steps);
         count += 1;
     }
-    assert!(count >= 7, "{count}");
+    assert!(count >= 8, "{count}");
 }
 
 #[test]
@@ -77,6 +77,7 @@ fn the_comparison_notices() {
     let counters = stored("counters");
     let order = stored("order");
     let signed = stored("signed");
+    let psel = stored("psel");
     let wrong = [
         ("diode", diode.replace("17387", "17388")),
         ("diode", diode.replace("0x10", "0x14")),
@@ -94,6 +95,8 @@ fn the_comparison_notices() {
         ("signed", signed.replace("-32768", " 32768")),
         ("signed", signed.replace("-600000", "4294367296")),
         ("signed", without(&signed, "z8.h", 2)),
+        ("psel", psel.replace("after    0: 01", "after    0: 00")),
+        ("psel", without(&psel, "p4.b", 2)),
     ];
     for (place, (name, text)) in wrong.into_iter().enumerate() {
         assert_ne!(text, stored(name), "edit {place} edits nothing");
@@ -191,4 +194,27 @@ fn the_wave_is_cut_at_each_end() {
     assert_eq!(stored(&text), wave);
     let finer = stored(&text.replace("shift=4", "shift=5"));
     assert_eq!(finer, [0, 13258, 18750, 13258, 0, -13258, -18750, -13258]);
+}
+
+/// What the page says of the switch: which steps have the nodes, where a register
+/// has an element for four of them and where it has one for more.
+#[test]
+fn the_steps_come_round() {
+    let text = lesson_text("psel");
+    for (vl, closed) in [
+        (128, [false, true, true, false]),
+        (256, [false, true, false, false]),
+    ] {
+        let found = lesson(&text, Some(vl));
+        let nodes = elements(&found.start, "p0.b", vl);
+        for (register, closed) in (4..).zip(closed) {
+            let expected = if closed {
+                nodes.clone()
+            } else {
+                vec![0; nodes.len()]
+            };
+            let told = elements(&found.end, &format!("p{register}.b"), vl);
+            assert_eq!(told, expected, "p{register} at VL {vl}");
+        }
+    }
 }

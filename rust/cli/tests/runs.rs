@@ -74,6 +74,8 @@ fn answers_of_a_run() {
         2,
         &["stopped  before word 0, line 2: c08a9000 UNDEFINED\n"],
     );
+    said("features sve2 sve2p1\n25e04000\nend", 0, &["answer   0: "]);
+    said("features sve2\n25e04000\nend", 2, &["answer   3: "]);
     let long = "45283801\n".repeat(257) + "end";
     said(
         &long,
@@ -93,12 +95,12 @@ fn answers_of_a_run() {
 #[test]
 fn other_contents() {
     let folder = folder("contents");
-    let text = "vl 256\np3 = bits 1 1 1 0 1\np1.b = 1 repeat\nw13 = 0xffffffff\n\
-                DUP size=16 offset=1 index=13 pg=1 pn=3 pd=3\nend\n";
+    let text = "vl 256\np3 = bits 1 1 1 0 1\np1.b = 1 1 0 0 repeat\nw13 = 0xffffffff\n\
+                PSEL size=16 offset=1 index=13 pn=1 pm=3 pd=3\nend\n";
     let told = lesson(&folder, text, &[], 0);
-    // Index (2^32 - 1 + 1) mod 16 is 0, which is true: each half, by bytes.
+    // Index (2^32 - 1 + 1) mod 16 is 0, which is true: all of p1.
     let block = "p3.b  before   0: 11101000 00000000 00000000 00000000\n      \
-                 after    0: 10101010 10101010 10101010 10101010\n";
+                 after    0: 11001100 11001100 11001100 11001100\n";
     assert!(told.ends_with(block), "{told}");
     // A view that hides bits does not hide a change.
     let text = "vl 256\npn9 = counter b all\nshow pn8\nshow p8.d\n\
@@ -177,6 +179,25 @@ fn results_with_and_without_signs() {
         "z2.s  unchanged  0: 65535     0     0     0\n",
     ];
     has_all(&lesson(&folder, text, &[], 0), &parts);
+}
+
+/// What PSEL copies is told as it was given where it comes from, and by PSEL's
+/// own size where it was not given; bits between those are shown.
+#[test]
+fn copies_are_told_as_what_is_copied() {
+    let folder = folder("copies");
+    let text = "p1.h = 1 0 1\np2.s = 1 0 0 1\np4.d = 1 1\n\
+                pn8 = counter 0x0011\npn9 = counter 0x0003\n\
+                PSEL size=32 offset=3 index=12 pn=1 pm=2 pd=4\n\
+                PSEL size=8 offset=0 index=12 pn=4 pm=2 pd=5\n\
+                PSEL size=32 offset=0 index=12 pn=8 pm=2 pd=6\n\
+                PSEL size=32 offset=0 index=12 pn=9 pm=2 pd=7\nend\n";
+    let told = lesson(&folder, text, &[], 0);
+    let blocks = "p4.h  before  0: 10001000\n      after   0: 10100000\n\
+                  p5.h  before  all 0\n      after   0: 10100000\n\
+                  p6.s  before  all 0\n      after   0: 1100\n\
+                  p7.b  before  all 0\n      after    0: 11000000 00000000\n";
+    assert!(told.ends_with(blocks), "{told}");
 }
 
 /// What is wrong, and where.

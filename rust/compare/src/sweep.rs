@@ -201,7 +201,7 @@ impl Grid {
         let values = match form {
             Form::Pext1 => [sizes, upto(9), registers(16), registers(16), none(), none()],
             Form::Pext2 => [sizes, upto(9), registers(16), registers(16), none(), none()],
-            Form::Dup => [
+            Form::Psel => [
                 vec![0, 1, 7, 8, 9, 16, 24, 32, 63, 64, 65, 128],
                 upto(17),
                 (10..18).collect(),

@@ -51,9 +51,16 @@ fn a_part_of_the_sweep_counts_what_is_read() {
     assert!(report.contains("16384 words from c08a8000"), "{report}");
     // i1 is 0 and the size 01 or 10; Zn and Zd are any.
     assert!(
-        report.contains("features 31: PEXT1 0, PEXT2 0, DUP 0, LUTI4C 512, LUTI4S 0, SQSHRUNB 0,"),
+        report.contains("features 31: PEXT1 0, PEXT2 0, PSEL 0, LUTI4C 512, LUTI4S 0, SQSHRUNB 0,"),
         "{report}"
     );
+    // Three P registers of four bits each; SVE2p1 (2) will do, and so will SME (4).
+    let output = compare(&["sweep-decode", "--from", "25244000", "--to", "25247fff"]);
+    let report = text(&output.stdout);
+    for (features, count) in [(0, 0), (1, 0), (3, 4096), (4, 4096), (31, 4096)] {
+        let line = format!("features {features:>2}: PEXT1 0, PEXT2 0, PSEL {count}, LUTI4C 0,");
+        assert!(report.contains(&line), "{line} in {report}");
+    }
 }
 
 /// Each of the sixteen narrowing words is done in a part of the gate.

@@ -9,7 +9,7 @@ use crate::{Narrowing, ffi};
 pub enum Form {
     Pext1,
     Pext2,
-    Dup,
+    Psel,
     Luti4c,
     Luti4s,
     Narrow(Narrowing),
@@ -19,7 +19,7 @@ pub enum Form {
 const SINGLE: [Form; 5] = [
     Form::Pext1,
     Form::Pext2,
-    Form::Dup,
+    Form::Psel,
     Form::Luti4c,
     Form::Luti4s,
 ];
@@ -45,7 +45,7 @@ impl Form {
         match self {
             Form::Pext1 => "PEXT1",
             Form::Pext2 => "PEXT2",
-            Form::Dup => "DUP",
+            Form::Psel => "PSEL",
             Form::Luti4c => "LUTI4C",
             Form::Luti4s => "LUTI4S",
             Form::Narrow(narrowing) => narrowing.name(),
@@ -57,7 +57,7 @@ impl Form {
         match self {
             Form::Pext1 => &["size", "imm2", "counter", "pd"],
             Form::Pext2 => &["size", "i1", "counter", "pd"],
-            Form::Dup => &["size", "offset", "index", "pg", "pn", "pd"],
+            Form::Psel => &["size", "offset", "index", "pn", "pm", "pd"],
             Form::Luti4c | Form::Luti4s => &["size", "i1", "zn", "zd"],
             Form::Narrow(_) => &["size", "shift", "zn", "zd"],
         }
@@ -80,12 +80,12 @@ impl Form {
                 counter: c,
                 pd: d,
             },
-            Form::Dup => Instruction::Dup {
+            Form::Psel => Instruction::Psel {
                 size: a,
                 offset: b,
                 index: c,
-                pg: d,
-                pn: e,
+                pn: d,
+                pm: e,
                 pd: f,
             },
             Form::Luti4c => Instruction::Luti4c {
@@ -139,13 +139,17 @@ pub enum Instruction {
         counter: u32,
         pd: u32,
     },
-    Dup {
+    /// Document 01 has DUP in its place, of a draft that was withdrawn, and calls
+    /// pn Pg and pm Pn.
+    Psel {
         size: u32,
         offset: u32,
         /// the index register, 12 to 15
         index: u32,
-        pg: u32,
+        /// the register that is copied, whole
         pn: u32,
+        /// the register of the one element
+        pm: u32,
         pd: u32,
     },
     Luti4c {
@@ -177,7 +181,7 @@ impl Instruction {
         match self {
             Instruction::Pext1 { .. } => Form::Pext1,
             Instruction::Pext2 { .. } => Form::Pext2,
-            Instruction::Dup { .. } => Form::Dup,
+            Instruction::Psel { .. } => Form::Psel,
             Instruction::Luti4c { .. } => Form::Luti4c,
             Instruction::Luti4s { .. } => Form::Luti4s,
             Instruction::Narrow { narrowing, .. } => Form::Narrow(narrowing),
@@ -199,14 +203,14 @@ impl Instruction {
                 counter,
                 pd,
             } => [size, i1, counter, pd, 0, 0],
-            Instruction::Dup {
+            Instruction::Psel {
                 size,
                 offset,
                 index,
-                pg,
                 pn,
+                pm,
                 pd,
-            } => [size, offset, index, pg, pn, pd],
+            } => [size, offset, index, pn, pm, pd],
             Instruction::Luti4c { size, i1, zn, zd } | Instruction::Luti4s { size, i1, zn, zd } => {
                 [size, i1, zn, zd, 0, 0]
             }
@@ -237,7 +241,7 @@ impl Instruction {
         match self.form() {
             Form::Pext1 => [0, a, b, c, d, e, f],
             Form::Pext2 => [1, a, b, c, d, e, f],
-            Form::Dup => [2, a, b, c, d, e, f],
+            Form::Psel => [2, a, b, c, d, e, f],
             Form::Luti4c => [3, a, b, c, d, e, f],
             Form::Luti4s => [4, a, b, c, d, e, f],
             Form::Narrow(narrowing) => [6, narrowing.number(), a, b, c, d, e],
@@ -257,7 +261,7 @@ impl Instruction {
         let form = match form {
             0 => Form::Pext1,
             1 => Form::Pext2,
-            2 => Form::Dup,
+            2 => Form::Psel,
             3 => Form::Luti4c,
             4 => Form::Luti4s,
             _ => return None,

@@ -74,10 +74,11 @@ pub fn decode(setting: Setting, word: u32) -> Answer<Instruction> {
 ///
 /// ```
 /// use gighull::{Instruction, Refusal, Setting, encode};
-/// let dup = |size, offset| Instruction::Dup { size, offset, index: 12, pg: 0, pn: 0, pd: 0 };
-/// assert_eq!(encode(Setting::FULL, dup(64, 1)), Ok(0x25e04000));
-/// assert_eq!(encode(Setting::FULL, dup(64, 2)), Err(Refusal::Range));
-/// assert_eq!(encode(Setting::new(128, 3), dup(64, 1)), Err(Refusal::Undefined));
+/// let psel = |size, offset| Instruction::Psel { size, offset, index: 12, pn: 0, pm: 0, pd: 0 };
+/// assert_eq!(encode(Setting::FULL, psel(64, 1)), Ok(0x25e04000));
+/// assert_eq!(encode(Setting::FULL, psel(64, 2)), Err(Refusal::Range));
+/// assert_eq!(encode(Setting::new(128, 3), psel(64, 1)), Ok(0x25e04000));
+/// assert_eq!(encode(Setting::new(128, 1), psel(64, 1)), Err(Refusal::Undefined));
 /// ```
 pub fn encode(setting: Setting, instruction: Instruction) -> Answer<u32> {
     let mut word = 0;

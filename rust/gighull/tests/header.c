@@ -74,7 +74,7 @@ int main(void) {
            offsetof(struct gighull_scalars, t));
     printf("field sizes %zu %zu %zu\n", sizeof scalars.w12, sizeof scalars.pc, sizeof scalars.v);
 
-    /* DUP by each of the four index registers, then each flag closed. */
+    /* PSEL by each of the four index registers, then each flag closed. */
     fresh();
     for (uint32_t m = 0; m < 4; m++) {
         step(2048, 31, UINT32_C(0x25247c23) | m << 16);
@@ -98,7 +98,7 @@ int main(void) {
     printf("step without files answers %" PRIu32 "\n",
            gighull_step(z, 0, p, 0, zt, 0, &scalars, 128, 31, UINT32_C(0x25207010)));
 
-    decode(UINT32_C(0x25e34c65));
+    decode(UINT32_C(0x25e34c85));
     decode(UINT32_C(0x45352cbe));
     uint32_t word = 9;
     uint32_t answer = gighull_decode(128, 31, 0, &word, 0);

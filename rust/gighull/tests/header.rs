@@ -9,7 +9,7 @@ use std::mem::{align_of, offset_of, size_of};
 use std::path::Path;
 use std::process::Command;
 
-use gighull::{INTERFACE_VERSION, Narrowing, Scalars, ffi};
+use gighull::{Form, INTERFACE_VERSION, Narrowing, Scalars, ffi};
 
 const HEADERS: &str = concat!(env!("CARGO_MANIFEST_DIR"), "/../../include");
 const PROGRAM: &str = concat!(env!("CARGO_MANIFEST_DIR"), "/tests/header.c");
@@ -169,7 +169,7 @@ fn said_by_rust() -> String {
     let answer = ffi::step(&mut [], &mut [], &mut [], scalars, 128, 31, 0x2520_7010);
     say(format!("step without files answers {answer}\n"));
 
-    say(decode(0x25e3_4c65));
+    say(decode(0x25e3_4c85));
     say(decode(0x4535_2cbe));
     let mut word = 9;
     let answer = ffi::decode(128, 31, 0, &mut []);
@@ -231,7 +231,7 @@ fn c_and_rust_find_the_same() {
     assert_eq!(c, rust);
     // What they both find is not nothing: words are done, and refused.
     for part in [
-        "interface version 2, the header's 2\n",
+        "interface version 3, the header's 3\n",
         "record size 32 align 8\n",
         "answers 0 z",
         "answers 1 z",
@@ -239,8 +239,8 @@ fn c_and_rust_find_the_same() {
         "answers 5 z",
         "answers 6 z",
         "files answers 2",
-        "decode answers 0: 2 64 1 15 3 3 5\n",
-        "encode answers 0: 25e34c65\n",
+        "decode answers 0: 2 64 1 15 3 4 5\n",
+        "encode answers 0: 25e34c85\n",
         "decode answers 0: 6 11 16 11 5 30 0\n",
         "encode answers 0: 45352cbe\n",
         "encode of nothing answers 9: 00000000\n",
@@ -301,11 +301,22 @@ fn the_same_functions_everywhere() {
     assert_eq!(in_the_header(), declared);
 }
 
-/// The header has each narrowing word's name beside its number.
+/// The header has each form's name and fields behind its number, and each
+/// narrowing word's name beside its own.
 #[test]
 fn the_header_s_names_are_the_library_s() {
     let text = header();
     let words: Vec<&str> = text.split_whitespace().collect();
+    let joined = words.join(" ").to_lowercase();
+    for form in Form::ALL {
+        let [number, ..] = form.with([0; 6]).numbers();
+        let fields = form.field_names().join(" ");
+        let line = match form {
+            Form::Narrow(_) => format!(" {number} narrowing number {fields} "),
+            _ => format!(" {number} {form} {fields} "),
+        };
+        assert!(joined.contains(&line.to_lowercase()), "{line}");
+    }
     for narrowing in Narrowing::ALL {
         let pair = [&*narrowing.number().to_string(), narrowing.name()];
         let count = words.windows(2).filter(|words| **words == pair).count();
@@ -314,7 +325,7 @@ fn the_header_s_names_are_the_library_s() {
 }
 
 /// The record's fields are the library's: each index register is the one that
-/// a DUP by it reads, PC is what moves, and each flag is the one that is asked.
+/// a PSEL by it reads, PC is what moves, and each flag is the one that is asked.
 #[test]
 fn the_record_is_the_library_s() {
     for read in 0..4u32 {
@@ -323,7 +334,7 @@ fn the_record_is_the_library_s() {
             let scalars = &mut machine.scalars;
             (scalars.w12, scalars.w13, scalars.w14, scalars.w15) = (1, 2, 3, 4);
             scalars.pc = 0x0123_4567_89ab_cdef;
-            // DUP.B of P1's element W, under P15, to P3
+            // PSEL.B by P1's element W, of P15, to P3
             machine.set_bit(15, 0, true).unwrap();
             machine.set_bit(1, 1 + set, true).unwrap();
             let word = 0x2524_7c23 | read << 16;

@@ -52,7 +52,7 @@ pub enum Kind {
     Form(Form),
     /// One narrowing word, by op:U:R:T, and size.
     Narrow(u32),
-    /// DUP of an element that is false.
+    /// PSEL by an element that is false.
     False,
     /// Every form.
     Mixed,
@@ -91,6 +91,14 @@ impl Case {
             ..Case::stretch(&format!("step: {name}"), kind, words)
         }
     }
+
+    pub fn has_psel(&self) -> bool {
+        self.words.iter().any(|&word| is_psel(word))
+    }
+}
+
+pub fn is_psel(word: u32) -> bool {
+    matches!(decode(FULL, word), Ok(Instruction::Psel { .. }))
 }
 
 /// Which words there are.
@@ -143,8 +151,8 @@ pub fn cases(known: Words) -> Vec<Case> {
             both(name, size, Kind::Narrow(bits), words);
         }
     }
-    let falses = of_false(&of_form(Form::Dup, 8));
-    cases.push(Case::stretch("DUP B, false", Kind::False, falses));
+    let falses = of_false(&of_form(Form::Psel, 8));
+    cases.push(Case::stretch("PSEL B, false", Kind::False, falses));
     for seed in 1..=3 {
         let name = format!("mixed, {seed}");
         let words = mixed(seed).into_iter().map(|word| known.known(word));
@@ -168,7 +176,7 @@ pub fn cases(known: Words) -> Vec<Case> {
 
 fn sizes(form: Form) -> &'static [u32] {
     match form {
-        Form::Pext1 | Form::Pext2 | Form::Dup => &[8, 16, 32, 64],
+        Form::Pext1 | Form::Pext2 | Form::Psel => &[8, 16, 32, 64],
         Form::Luti4c => &[16, 32],
         Form::Luti4s => &[16],
         Form::Narrow => &[8, 16, 32],
@@ -202,7 +210,7 @@ fn of_form(form: Form, size: u32) -> Vec<u32> {
         let (found, apart) = match form {
             Form::Pext1 => (fields[0], fields[3] < 8),
             Form::Pext2 => (fields[0], fields[3] < 7),
-            Form::Dup => (fields[0], fields[3] < 7 && fields[4] < 7 && fields[5] >= 8),
+            Form::Psel => (fields[0], fields[3] < 7 && fields[4] < 7 && fields[5] >= 8),
             Form::Luti4c | Form::Luti4s => (fields[0], fields[2] < 16 && fields[3] >= 16),
             Form::Narrow => (fields[1], fields[3] < 16 && fields[4] >= 16),
         };
@@ -213,7 +221,7 @@ fn of_form(form: Form, size: u32) -> Vec<u32> {
     words
 }
 
-/// The same with P7, which holds no true element, as Pn.
+/// The same with P7, which holds no true element, as Pm.
 fn of_false(words: &[u32]) -> Vec<u32> {
     words.iter().map(|word| word & !0x1e0 | 7 << 5).collect()
 }

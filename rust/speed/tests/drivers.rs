@@ -111,7 +111,7 @@ fn archivespeed_has_a_line_for_each_case_and_length() {
         "\n| SQSHRUNB B | 128 | ",
         "\n| SQRSHRNT H | 2048 | ",
         "\n| step: UQRSHRNT S | 512 | ",
-        "\n| DUP B, false | 512 | ",
+        "\n| PSEL B, false | 512 | ",
         "\n| mixed, 3 | 2048 | ",
         "\n| step: V closed | 128 | ",
         "\n| listing | - | ",
@@ -144,6 +144,89 @@ fn archivespeed_times_old_words_with_an_old_archive() {
         assert_eq!(row("| SQRSHRNT H"), None);
     }
 }
+
+/// Where one of two archives has a version from before PSEL, the words at its
+/// layout may leave other bytes and have another name, but not another answer.
+#[test]
+fn archivespeed_lets_psel_differ_from_its_predecessor() {
+    let folder = new_folder("predecessor");
+    let page = format!("{folder}/other.c");
+    fs::write(&page, OTHER).unwrap();
+    let archive = |name: &str, version: u32, is_other: &str, change: &str| {
+        let (archive, object) = (format!("{folder}/{name}.a"), format!("{folder}/{name}.o"));
+        let renames = ["interface_version", "run", "lines"]
+            .map(|name| format!("--redefine-sym=gighull_{name}=own_{name}"));
+        let [a, b, c] = renames.each_ref().map(String::as_str);
+        let renamed = called("objcopy", &[a, b, c, ARCHIVE, &archive]);
+        assert!(renamed.status.success(), "{renamed:?}");
+        let macros = [
+            format!("-DVERSION={version}"),
+            format!("-DIS_OTHER(word)=({is_other})"),
+            format!("-DCHANGE={change}"),
+        ];
+        let [a, b, c] = macros.each_ref().map(String::as_str);
+        let options = ["-c", "-fPIC", "-I", HEADERS, a, b, c, &page, "-o", &object];
+        assert!(called("cc", &options).status.success());
+        assert!(called("ar", &["r", &archive, &object]).status.success());
+        archive
+    };
+    let is_psel = "(word & 0xff20c210) == 0x25204000 && (word & 0x5c0000) != 0";
+    let is_pext = "(word & 0xff3ffc10) == 0x25207010";
+    let bytes = "p[511] = 0x77";
+    let old = archive("old", 2, is_psel, bytes);
+    for arguments in [[&old, ARCHIVE, "1"], [ARCHIVE, &old, "1"]] {
+        let output = archivespeed(&arguments);
+        assert!(output.status.success(), "{output:?}");
+        let end = "\nall equal after every case, but of PSEL the answers alone are compared; ";
+        let report = text(&output.stdout);
+        assert!(report.contains(end), "{report}");
+    }
+    for (archive, line) in [
+        (
+            archive("new", 3, is_psel, bytes),
+            "PSEL B at VL 128: the machines differ",
+        ),
+        (
+            archive("refused", 2, is_psel, "answer = 4"),
+            "PSEL B at VL 128: another answer",
+        ),
+        (
+            archive("pext", 2, is_pext, bytes),
+            "PEXT1 B at VL 128: the machines differ",
+        ),
+    ] {
+        let output = archivespeed(&[ARCHIVE, &archive, "1"]);
+        assert!(complained(&output), "{output:?}");
+        assert_eq!(text(&output.stderr), format!("archivespeed: {line}\n"));
+    }
+}
+
+/// An archive's functions, but for some words.
+const OTHER: &str = r#"
+#include "gighull.h"
+__typeof__(gighull_run) own_run;
+__typeof__(gighull_lines) own_lines;
+uint32_t gighull_interface_version(void) {
+    return VERSION;
+}
+uint32_t gighull_run(uint8_t *z, size_t z_len, uint8_t *p, size_t p_len, uint8_t *zt, size_t zt_len, uint32_t w12,
+                     uint32_t w13, uint32_t w14, uint32_t w15, uint64_t *pc, bool v, bool s, bool t, uint32_t vl,
+                     uint32_t features, const uint32_t *words, size_t words_len, size_t *done) {
+    uint32_t answer = own_run(z, z_len, p, p_len, zt, zt_len, w12, w13, w14, w15, pc, v, s, t, vl, features, words,
+                              words_len, done);
+    for (size_t i = 0; i < words_len; i++)
+        if (IS_OTHER(words[i]))
+            CHANGE;
+    return answer;
+}
+size_t gighull_lines(const uint8_t *input, size_t input_len, uint8_t *out, size_t out_len, size_t *written) {
+    size_t read = own_lines(input, input_len, out, out_len, written);
+    for (size_t i = 0; i + 4 <= read; i += 4)
+        if (IS_OTHER((input[i] | input[i + 1] << 8 | input[i + 2] << 16 | (uint32_t)input[i + 3] << 24)))
+            out[0] = '?';
+    return read;
+}
+"#;
 
 #[test]
 fn archivespeed_refuses_other_archives() {

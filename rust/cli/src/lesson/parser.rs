@@ -82,7 +82,7 @@ impl Parser {
             "order" => self.order(rest),
             "end" if rest.trim().is_empty() => self.enter(Part::End),
             "end" => Err(format!("{} follows `end`", quoted(rest.trim()))),
-            _ if word::form(first).is_some() || word::hex(first).is_some() => self.word(line),
+            _ if word::form(first)?.is_some() || word::hex(first).is_some() => self.word(line),
             _ => match line.split_once('=') {
                 // Of a word's line, fields with a `=` follow the first name.
                 Some((name, value)) if !name.trim().contains(char::is_whitespace) => {

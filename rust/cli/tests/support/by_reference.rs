@@ -81,6 +81,10 @@ pub fn lesson(text: &str, vl: Option<u32>) -> Lesson {
                 let register = name.strip_prefix("pn").unwrap().parse().unwrap();
                 set_counter(&mut start, register, counter, setting.vl);
             }
+            [name, "=", value] if name.starts_with('w') => {
+                let place: usize = name[1..].parse().unwrap();
+                start.w[place - 12] = value.parse().unwrap();
+            }
             [name, "=", values @ ..] => {
                 if values.iter().any(|value| value.starts_with('-')) {
                     signed.push(name.to_string());
@@ -227,7 +231,7 @@ fn word(name: &str, fields: &[&str]) -> u32 {
     let order: &[&str] = match form {
         Form::Pext1 => &["size", "imm2", "counter", "pd"],
         Form::Pext2 => &["size", "i1", "counter", "pd"],
-        Form::Dup => &["size", "offset", "index", "pg", "pn", "pd"],
+        Form::Psel => &["size", "offset", "index", "pn", "pm", "pd"],
         Form::Luti4c | Form::Luti4s => &["size", "i1", "zn", "zd"],
         Form::Narrow => &["size", "shift", "zn", "zd"],
     };

@@ -9,7 +9,7 @@ use std::path::{Path, PathBuf};
 use std::process::{Command, Output};
 
 pub const ROOT: &str = concat!(env!("CARGO_MANIFEST_DIR"), "/../..");
-pub const LESSONS: [&str; 4] = ["diode", "counters", "order", "signed"];
+pub const LESSONS: [&str; 5] = ["diode", "counters", "order", "signed", "psel"];
 
 /// The command, from the repository's root, where lessons have short names.
 pub fn gighull(arguments: &[&str]) -> Output {

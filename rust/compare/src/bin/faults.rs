@@ -143,10 +143,54 @@ const FAULTS: &[Fault] = &[
     },
     Fault {
         name: "index-of-128",
-        does: "DUP's index is taken modulo 128/size at every VL",
+        does: "PSEL's index is taken modulo 128/size at every VL",
         file: "operations.rs",
         sound: "% u128::from(elements)",
         faulty: "% u128::from(128 / size)",
+    },
+    Fault {
+        name: "sum-stops",
+        does: "the sum of PSEL's index stops at 2^32 - 1",
+        file: "operations.rs",
+        sound: "(u128::from(base) + u128::from(offset)) %",
+        faulty: "u128::from(base.saturating_add(offset)) %",
+    },
+    Fault {
+        name: "registers-exchanged",
+        does: "PSEL copies Pm, by the element of Pn",
+        file: "step.rs",
+        sound: "let (copied, chooser) =",
+        faulty: "let (chooser, copied) =",
+    },
+    Fault {
+        name: "elements-alone",
+        does: "PSEL copies only the bits of elements of its size",
+        file: "operations.rs",
+        sound: "result.push(chosen && bit);",
+        faulty: "let is_element = result.len() % (size as usize / 8) == 0;
+        result.push(chosen && bit && is_element);",
+    },
+    Fault {
+        name: "false-keeps",
+        does: "PSEL leaves Pd as it was where the element is false",
+        file: "step.rs",
+        sound: "let result = psel(&copied, &chooser, base, offset, size, vl);",
+        faulty: "let chosen = psel(&[true], &chooser, base, offset, size, vl)[0];
+            let result = if chosen { copied } else { machine.predicate(pd, vl) };",
+    },
+    Fault {
+        name: "sme-alone",
+        does: "PSEL asks for SME, and SVE2p1 does not do",
+        file: "layout.rs",
+        sound: "Form::Psel => setting.has(SME) || setting.has(SVE2P1),",
+        faulty: "Form::Psel => setting.has(SME),",
+    },
+    Fault {
+        name: "sve2-will-do",
+        does: "PSEL is also read with SVE2 alone",
+        file: "layout.rs",
+        sound: "Form::Psel => setting.has(SME) || setting.has(SVE2P1),",
+        faulty: "Form::Psel => setting.has(SME) || setting.has(SVE2),",
     },
     Fault {
         name: "upper-bits",
@@ -225,6 +269,13 @@ const FAULTS: &[Fault] = &[
         file: "touch.rs",
         sound: "writes: vec![P(pd), P((pd + 1) % 16)],",
         faulty: "writes: vec![P(pd)],",
+    },
+    Fault {
+        name: "element-unread",
+        does: "conflict forgets that PSEL reads Pm",
+        file: "touch.rs",
+        sound: "reads: vec![P(pn), P(pm), W(index)],",
+        faulty: "reads: vec![P(pn), W(index)],",
     },
     Fault {
         name: "readers-conflict",

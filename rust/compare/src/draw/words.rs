@@ -16,7 +16,7 @@ use super::one_in;
 const FORMS: [Form; 8] = [
     Form::Pext1,
     Form::Pext2,
-    Form::Dup,
+    Form::Psel,
     Form::Luti4c,
     Form::Luti4s,
     Form::Narrow,
@@ -50,7 +50,7 @@ fn written(random: &mut Random, form: Form, near: bool) -> u32 {
                 fields[2] = random.pick(&[8, 9, 15]);
                 fields[3] = random.pick(&[0, 7, 8, 9, 14, 15]);
             }
-            Form::Dup => {
+            Form::Psel => {
                 for field in &mut fields[3..] {
                     *field = random.pick(&[0, 8, 9, 15]);
                 }

@@ -12,9 +12,14 @@
 //! should not have a median above 1.05, and " OVER" marks those that have; the
 //! single steps have no bar. Rows that are over leave the status 0.
 //!
-//! Where the archive before has version 1 of the interface, only words that it
+//! Where one of the archives has version 1 of the interface, only words that it
 //! knows are timed and listed. Of the narrowing words it knew UQRSHRNB alone,
 //! whose bar is 1.25 then.
+//!
+//! Up to version 2 the words at PSEL's layout are another operation with another
+//! name. Where only one of the archives has such a version, rows with
+//! these words are timed all the same, but of them the answers alone are compared;
+//! the listing leaves these words out.
 //!
 //! So that the same code takes the same time on both sides and in every process,
 //! functions and files begin with cache lines, rounds go through copies of the
@@ -32,7 +37,7 @@ use std::time::Instant;
 use gighull::Scalars;
 use reference::samples::listing_words;
 use speed::archive::{Archive, COPIES};
-use speed::cases::{Case, Kind, LENGTHS, W, Words, cases};
+use speed::cases::{Case, Kind, LENGTHS, W, Words, cases, is_psel};
 use speed::functions::{Functions, Lent};
 use speed::timing::{Rounds, by_place, passes_in_a_round, timed};
 use speed::{fail, minimum_and_median};
@@ -43,7 +48,9 @@ const DEFAULT_ROUNDS: usize = 201;
 const BAR: f64 = 1.05;
 /// The same of UQRSHRNB, against an archive where it was the only one.
 const BAR_OF_OLD_NARROWING: f64 = 1.25;
-const LISTED: u64 = 65_536;
+/// The first version of the interface with PSEL.
+const FIRST_WITH_PSEL: u32 = 3;
+const LISTED: usize = 65_536;
 /// The longest line of a listing, with its newline.
 const LINE: usize = 19;
 
@@ -88,33 +95,55 @@ fn compare(before: &OsStr, after: &OsStr, rounds: usize) -> Result<String, Strin
     report += "| form | VL | median | before | after | least/least | bar |\n";
     report += "|---|---|---|---|---|---|---|\n";
     let mut over = 0;
-    let words = match sides[BEFORE].version.min(sides[AFTER].version) {
-        1 => Words::Old,
-        _ => Words::All,
-    };
-    for row in &mut timed_rows(&sides, words, rounds)? {
+    let shared = Shared::by(&sides);
+    for row in &mut timed_rows(&sides, shared, rounds)? {
         let (line, is_over) = row.shown();
         report += &line;
         over += usize::from(is_over);
     }
-    report += &format!("all equal after every case; {over} over their bar\n");
+    let but = match shared.psel {
+        true => "",
+        false => ", but of PSEL the answers alone are compared",
+    };
+    report += &format!("all equal after every case{but}; {over} over their bar\n");
     Ok(report)
+}
+
+/// What two archives have in common.
+#[derive(Clone, Copy)]
+struct Shared {
+    words: Words,
+    /// Whether the words at PSEL's layout are the same in both.
+    psel: bool,
+}
+
+impl Shared {
+    fn by(sides: &[Archive; 2]) -> Shared {
+        let versions = [&sides[BEFORE], &sides[AFTER]].map(|side| side.version);
+        Shared {
+            words: match versions.contains(&1) {
+                true => Words::Old,
+                false => Words::All,
+            },
+            psel: (versions[0] < FIRST_WITH_PSEL) == (versions[1] < FIRST_WITH_PSEL),
+        }
+    }
 }
 
 /// Goes through the rows again and again, some rounds of each, so that what
 /// disturbs the machine for a moment takes few of the rounds of any.
-fn timed_rows(sides: &[Archive; 2], words: Words, rounds: usize) -> Result<Vec<Row>, String> {
-    let cases = cases(words);
+fn timed_rows(sides: &[Archive; 2], shared: Shared, rounds: usize) -> Result<Vec<Row>, String> {
+    let cases = cases(shared.words);
     let mut lent = Lent::start(Scalars::OPEN);
     let mut rows = Vec::new();
     for vl in LENGTHS {
-        let benches = cases.iter().map(|case| Bench::new(sides, case, vl));
-        rows.extend(benches.map(|bench| (Row::of(bench.case, vl, words), bench)));
+        let benches = cases.iter().map(|case| Bench::new(sides, shared, case, vl));
+        rows.extend(benches.map(|bench| (Row::of(bench.case, vl, shared.words), bench)));
     }
     for (_, bench) in &mut rows {
         bench.warm(&mut lent);
     }
-    let (mut last, mut listing) = (Row::of_listing(), Listing::new(sides, words));
+    let (mut last, mut listing) = (Row::of_listing(), Listing::new(sides, shared));
     let mut left = rounds;
     while left > 0 {
         let some = left.min(VISIT);
@@ -177,6 +206,8 @@ struct Bench<'a> {
     sides: &'a [Archive; 2],
     case: &'a Case,
     vl: u32,
+    /// Whether both sides must leave the same machine.
+    alike: bool,
     /// Where each side has come to.
     machines: [Box<Lent>; 2],
     /// How many passes are timed at a time.
@@ -186,7 +217,7 @@ struct Bench<'a> {
 }
 
 impl<'a> Bench<'a> {
-    fn new(sides: &'a [Archive; 2], case: &'a Case, vl: u32) -> Bench<'a> {
+    fn new(sides: &'a [Archive; 2], shared: Shared, case: &'a Case, vl: u32) -> Bench<'a> {
         let [w12, w13, w14, w15] = W;
         let scalars = Scalars {
             w12,
@@ -200,6 +231,7 @@ impl<'a> Bench<'a> {
             sides,
             case,
             vl,
+            alike: shared.psel || !case.has_psel(),
             machines: [Lent::start(scalars), Lent::start(scalars)],
             passes: 8,
             wrong: 0,
@@ -244,7 +276,7 @@ impl<'a> Bench<'a> {
         });
         let problem = if self.wrong > 0 {
             "another answer"
-        } else if self.machines[AFTER] != self.machines[BEFORE] {
+        } else if self.alike && self.machines[AFTER] != self.machines[BEFORE] {
             "the machines differ"
         } else {
             return Ok(());
@@ -261,12 +293,14 @@ struct Listing<'a> {
 }
 
 impl<'a> Listing<'a> {
-    fn new(sides: &'a [Archive; 2], words: Words) -> Listing<'a> {
-        let words = listing_words(1, LISTED).map(|word| words.known(word));
+    fn new(sides: &'a [Archive; 2], shared: Shared) -> Listing<'a> {
+        let words = listing_words(1, u64::MAX)
+            .filter(|&word| shared.psel || !is_psel(word))
+            .map(|word| shared.words.known(word));
         Listing {
             sides,
-            input: words.flat_map(u32::to_le_bytes).collect(),
-            out: vec![0; LINE * LISTED as usize],
+            input: words.take(LISTED).flat_map(u32::to_le_bytes).collect(),
+            out: vec![0; LINE * LISTED],
         }
     }
 

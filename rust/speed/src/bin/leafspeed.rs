@@ -16,13 +16,14 @@
 //!
 //! The files are random, and no word of a form's row writes what one of them
 //! reads (but for what a word with T keeps of its own destination), so that the
-//! sources stay random: DUP's chosen element is true about every second time.
-//! Where it is always false the baseline's loop is passed over; the row "DUP B,
-//! false" shows that, with no bar of its own.
+//! sources stay random: PSEL's element is true about every second time. There the
+//! baseline copies VL/64 bytes, and else it fills them, whatever the size; so the
+//! bar of PSEL is 1.05 at both lengths. The row "PSEL B, false" is fills alone,
+//! with no bar of its own.
 //!
 //! With `cleared` every file is zeros at the start, as for a long session. Then
-//! no element of a predicate is true, so that PEXT and DUP only clear, which
-//! the baseline does at once too: their bar is 1.05 there.
+//! no element of a predicate is true, so that PEXT only clears, which the
+//! baseline does at once too: its bar is 1.05 there.
 
 use std::hint::black_box;
 use std::process::ExitCode;
@@ -87,8 +88,8 @@ fn bar(case: &Case, vl: u32, files: Files) -> f64 {
         (Kind::Narrow(bits), _) if bits >> 2 == 0b01 => [1.05, 1.2],
         (Kind::Narrow(_), _) => [1.05, 0.9],
         (Kind::Form(Form::Luti4c | Form::Luti4s), _) => [1.05, 0.4],
+        (Kind::Form(Form::Psel), _) | (Kind::Form(_), Files::Cleared) => [1.05, 1.05],
         (Kind::Form(_), Files::Random) => [1.05, 0.4],
-        (Kind::Form(_), Files::Cleared) => [1.05, 1.05],
         (Kind::Mixed, _) => [1.0, 0.6],
         (Kind::False | Kind::Refused, _) => [f64::INFINITY; 2],
     };
