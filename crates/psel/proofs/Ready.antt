@@ -1,12 +1,14 @@
--- What the tests before PSEL say of its operands, each test by itself, and the file as it is left where they say yes.
-use mathlib.Core.Path.{_≡_, sym, _∙_}
+-- What the tests before PSEL say of its operands, each test by itself, the file as it is left where they say yes, and which length is left of the five.
+use mathlib.Core.Path.{_≡_, refl, sym, _∙_}
 use mathlib.Core.Bool.{true, false, _&&_}
 use mathlib.Core.List.{List}
-use Prim.Native.Nat.{ℕ, _+_, _/_}
+use Prim.Native.Nat.{ℕ, _+_, _/_, _≤_, _<_}
+use native.Mathlib.Omega.{arith}
 use lib.Dec.{eqb, ltb}
 use lib.ListN.{length}
 use borrow.Author.Tests.{eqb-true, ltb-true}
 use Rattle.setting.specs.Allowed.{lengthAllowed}
+use Rattle.setting.proofs.Lengths.{length-cases}
 use Rattle.part.proofs.Lengths.{lengths-of}
 use Rattle.element.specs.Files.{predicateFile}
 use Rattle.element.specs.Size.{isSize}
@@ -52,3 +54,14 @@ pub untouched : (vl size w offset pn pm pd : ℕ) (f : List ℕ)
     → (false ≡ pselReady (length f) vl size offset pn pm pd) × (f ≡ pselLeaves vl size w offset pn pm pd f)
 unfolding pselLeaves
 untouched vl size w offset pn pm pd f refused = (sym refused, rw refused)
+
+-- the lengths that are left when three have been tested: one below 1024, and one that is not
+pub is-256 : (vl : ℕ) → lengthAllowed vl ≡ true → (vl ≡ 128 → ⊥) → (vl ≡ 512 → ⊥) → vl < 1024 → vl ≡ 256
+is-256 =
+    length-cases (λ vl. (vl ≡ 128 → ⊥) → (vl ≡ 512 → ⊥) → vl < 1024 → vl ≡ 256)
+    (λ a b h. absurd (a refl)) (λ a b h. refl) (λ a b h. absurd (b refl)) (λ a b h. omega (arith, h)) (λ a b h. omega (arith, h))
+
+pub is-1024 : (vl : ℕ) → lengthAllowed vl ≡ true → (vl ≡ 2048 → ⊥) → 1024 ≤ vl → vl ≡ 1024
+is-1024 =
+    length-cases (λ vl. (vl ≡ 2048 → ⊥) → 1024 ≤ vl → vl ≡ 1024)
+    (λ a h. omega (arith, h)) (λ a h. omega (arith, h)) (λ a h. omega (arith, h)) (λ a h. refl) (λ a h. absurd (a refl))

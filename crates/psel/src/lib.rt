@@ -46,7 +46,7 @@ pub fn psel(p: &mut [u8], vl: u32, log: u32, w: u32, offset: u32, pn: u32, pm: u
     if !can_psel(p.len(), vl, log, offset, pn, pm, pd) {
         return false;
     }
-    // literal lengths, so that LLVM makes straight code for them
+    // literal lengths, so that LLVM makes straight code for them; the last two by their order, since a fourth equality makes it a switch
     if vl == 128 {
         select(p, 128, log, w, offset, pn, pm, pd);
         return true;
@@ -59,7 +59,11 @@ pub fn psel(p: &mut [u8], vl: u32, log: u32, w: u32, offset: u32, pn: u32, pm: u
         select(p, 2048, log, w, offset, pn, pm, pd);
         return true;
     }
-    select(p, vl, log, w, offset, pn, pm, pd);
+    if vl < 1024 {
+        select(p, 256, log, w, offset, pn, pm, pd);
+        return true;
+    }
+    select(p, 1024, log, w, offset, pn, pm, pd);
     true
 }
 
