@@ -12,7 +12,7 @@
 
 static const uint32_t NUMBERS[] = {0, 1, 3, 7, 8, 15, 16, 31, 32, 64, 127, 128, 129, 256, 512, 1024, 2047, 2048, 2049, 65664, 0x7fffffff, 0x80000000, 0xffffffff};
 static const uint32_t LENGTHS_OF_VL[] = {0, 1, 128, 256, 512, 1024, 2048, 65664, 0xffffffff};
-static const uint32_t FEATURES[] = {0, 1, 2, 12, 28, 31, 32, 287, 0xffffffff};
+static const uint32_t FEATURES[] = {0, 1, 2, 3, 12, 28, 31, 32, 287, 0xffffffff};
 static const uint32_t WORDS[] = {0, 0x25207010, 0x2520741f, 0x252c4000, 0x25e04000, 0xc08a9000, 0xc08b9000, 0xc08aa3fc, 0xc09a93f3, 0x45283800, 0x457f3bff, 0x45280000, 0x45602fff, 0x457f1421, 0xffffffff};
 #define COUNT(list) (sizeof(list) / sizeof(list[0]))
 
