@@ -1,4 +1,4 @@
--- What `claims` promises of the definitions: a word is undefined exactly when no row matches it, decoding and encoding undo each other wherever neither is refused, and the narrowing words are read and named in the manual's order.
+-- What `claims` promises of the definitions: a word is undefined exactly when no row matches it, decoding and encoding undo each other wherever neither is refused, PSEL is read by its fields and features, and the narrowing words are read and named in the manual's order.
 use mathlib.Core.Path.{_≡_}
 use mathlib.Core.Bool.{Bool, true, false}
 use mathlib.Core.List.{List, [], _∷_}
