@@ -15,7 +15,8 @@ use Rattle.counter.specs.Points.{counterPoints}
 use Rattle.counter.proofs.BoardPoints.{counter-points}
 use Rattle.pext.specs.Points.{pextPoints}
 use Rattle.pext.proofs.BoardPoints.{pext-points}
-use Rattle.psel.specs.Psel.{indexOf, valueOf, pselOf}
+use Rattle.index.specs.Index.{indexOf}
+use Rattle.psel.specs.Psel.{valueOf, pselOf}
 use Rattle.psel.specs.Points.{pselPoints}
 use Rattle.psel.proofs.BoardPoints.{psel-points}
 use Rattle.machine.specs.Points.{elementPoints, pselWords, narrowTouches, starred}

@@ -2,7 +2,8 @@
 use mathlib.Core.Path.{refl}
 use Rattle.logic.specs.Every.{Every}
 use Rattle.element.specs.Contents.{bytes, field, fill, gather, octet, packed}
-use Rattle.psel.specs.Psel.{indexOf, valueOf, pselOf}
+use Rattle.index.specs.Index.{indexOf}
+use Rattle.psel.specs.Psel.{valueOf, pselOf}
 use Rattle.psel.specs.Points.{pselPoints, wholePoints}
 
 pub psel-points : Every pselPoints

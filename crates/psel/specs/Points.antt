@@ -3,7 +3,8 @@ use mathlib.Core.Path.{_≡_}
 use mathlib.Core.List.{List, [], _∷_}
 use Prim.Native.Nat.{_+_}
 use Rattle.logic.specs.Every.{Every}
-use Rattle.psel.specs.Psel.{indexOf, pselOf}
+use Rattle.index.specs.Index.{indexOf}
+use Rattle.psel.specs.Psel.{pselOf}
 
 abbrev pub pselPoints : List (Type 0)
 pselPoints =

@@ -2,7 +2,7 @@
 -- (The row `psel` says what document 01 calls the word and its fields.)
 use mathlib.Core.Bool.{Bool, false, _&&_}
 use mathlib.Core.List.{List}
-use Prim.Native.Nat.{ℕ, _+_, _*_, _/_, _%_}
+use Prim.Native.Nat.{ℕ, _+_, _*_, _/_}
 use lib.Dec.{eqb, ltb}
 use lib.ListN.{length}
 use Rattle.setting.specs.Allowed.{lengthAllowed}
@@ -11,11 +11,9 @@ use Rattle.element.specs.Size.{isSize}
 use Rattle.element.specs.Contents.{bit, packed}
 use Rattle.element.specs.Slots.{slot, setSlot}
 use Rattle.element.specs.Files.{predicateFile}
+use Rattle.index.specs.Index.{indexOf}
 
 -- the chosen element of Pm, sum being W + offset
-unfoldable pub indexOf : ℕ → ℕ → ℕ → ℕ
-indexOf vl size sum = sum % (vl / size)
-
 unfoldable pub valueOf : ℕ → ℕ → ℕ → List ℕ → Bool
 valueOf vl size sum pm = bit (indexOf vl size sum * (size / 8)) pm
 

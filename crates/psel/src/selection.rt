@@ -1,10 +1,9 @@
 // PSEL on contents: one element of Pm decides whether all of Pn is copied or nothing.
 ghost use mathlib.Core.Path.{_≡_};
-ghost use mathlib.Core.Bool.{true, false};
-ghost use Prim.Native.Nat.{_+_, _*_, _/_, _%_, _^_, _<_};
+ghost use mathlib.Core.Bool.{false};
+ghost use Prim.Native.Nat.{_+_, _*_, _<_};
 ghost use lib.ListN.{length, getD};
 ghost use lib.Bits.{bitAnd};
-ghost use Rattle.setting.specs.Allowed.{lengthAllowed};
 ghost use Rattle.logic.specs.Pick.{pick};
 ghost use Rattle.element.specs.Units.{sizeAt};
 ghost use Rattle.element.specs.Contents.{fill, packed, bit};
@@ -21,21 +20,13 @@ fn test(s: &[u8], i: usize) -> bool
     x == 1
 }
 
-// The chosen element: an adder of 32 bits that wraps, and a mask, since the number of elements is a power of two.
-fn chosen(vl: u32, z: u32, w: u32, offset: u32) -> u32
-    requires { ⌜ (z < 4) × (lengthAllowed vl ≡ true) ⌝ }
-    ensures { λ r. ⌜ (r ≡ (w + offset) % (vl / 8 / 2 ^ z)) × (r < vl / 8 / 2 ^ z) ⌝ }
-{
-    let n = (vl / 8) >> z;
-    std::num::wrapping_add_u32(w, offset) & (n - 1)
-}
-
 // The chosen element of Pm.
 pub(crate) fn value(pm: &[u8], vl: u32, log: u32, w: u32, offset: u32) -> bool
     requires { ⌜ ElementReady vl log (length (now pm)) ⌝ }
     ensures { λ r. ⌜ r ≡ valueOf vl (sizeAt log) (w + offset) (now (pm .entry)) ⌝ }
 {
-    let i = chosen(vl, log, w, offset) << log;
+    let unit = index::unit(vl, log, w, offset);
+    let i = unit.index << log;
     test(pm, i as usize)
 }
 
