@@ -1,5 +1,5 @@
 // Writes words: the ranges of an instruction's fields, its features, and the word.
-mod ranges;
+pub mod ranges;
 mod words;
 
 ghost use mathlib.Core.Path.{_≡_};

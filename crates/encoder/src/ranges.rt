@@ -1,10 +1,6 @@
 // Whether each field of an instruction is within its range for writing.
 ghost use mathlib.Core.Path.{_≡_};
-ghost use mathlib.Core.Bool.{_&&_};
-ghost use Prim.Native.Nat.{_/_};
-ghost use lib.Dec.{ltb};
-ghost use Rattle.element.specs.Size.{isSize};
-ghost use Rattle.encoding.specs.Instructions.{inRange, pextInRange, pselInRange, lutiInRange, narrowInRange};
+ghost use Rattle.encoding.specs.Instructions.{inRange, isOffset, pextInRange, pselInRange, lutiInRange, narrowInRange};
 use encoding::Instruction;
 
 fn pext(bound: u32, size: u32, portion: u32, counter: u32, pd: u32) -> bool
@@ -14,8 +10,8 @@ fn pext(bound: u32, size: u32, portion: u32, counter: u32, pd: u32) -> bool
 }
 
 // Whether the size is one and the offset below 128 divided by it. A size of 0 divides nothing.
-fn psel_offset(size: u32, offset: u32) -> bool
-    ensures { λ r. ⌜ r ≡ (isSize size && ltb offset (128 / size)) ⌝ }
+pub fn psel_offset(size: u32, offset: u32) -> bool
+    ensures { λ r. ⌜ r ≡ isOffset size offset ⌝ }
 {
     if !element::is_size(size) {
         return false;

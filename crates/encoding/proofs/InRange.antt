@@ -10,7 +10,7 @@ use Rattle.element.specs.Units.{logOf}
 use Rattle.element.specs.Private.{Log}
 use Rattle.element.proofs.Tests.{both-yes}
 use Rattle.element.proofs.Units.{log-is, size-is}
-use Rattle.encoding.specs.Instructions.{isP, isZ, pextInRange, pselInRange, lutiInRange, narrowInRange, inRange, rawPselBits, rawOf}
+use Rattle.encoding.specs.Instructions.{isP, isZ, pextInRange, isOffset, pselInRange, lutiInRange, narrowInRange, inRange, rawPselBits, rawOf}
 use Rattle.encoding.specs.Rows.{rowOf}
 use Rattle.encoding.specs.declared.Instruction.{Instruction}
 use Rattle.encoding.specs.declared.Instruction.the-variants.{Pext1, Pext2, Psel, Luti4c, Luti4s, Narrow}
@@ -53,13 +53,13 @@ pub record PselFields (size offset index pn pm pd : ℕ) : Type 0 where
 
 pub psel-ranges : (size offset index pn pm pd : ℕ) → pselInRange size offset index pn pm pd ≡ true → PselFields size offset index pn pm pd
 psel-ranges size offset index pn pm pd e =
-    let a = both-yes (isSize size && ltb offset (128 / size) && (leb 12 index && ltb index 16)) (isP pn && isP pm && isP pd) e in
-    let b = both-yes (isSize size && ltb offset (128 / size)) (leb 12 index && ltb index 16) (a .0) in
-    let c = both-yes (isSize size) (ltb offset (128 / size)) (b .0) in
+    let a = both-yes (isOffset size offset && (leb 12 index && ltb index 16)) (isP pn && isP pm && isP pd) e in
+    let b = both-yes (isOffset size offset) (leb 12 index && ltb index 16) (a .0) in
+    let c = both-yes (isSize size) (ltb offset _) (b .0) in
     let d = both-yes (leb 12 index) (ltb index 16) (b .1) in
     let p = both-yes (isP pn && isP pm) (isP pd) (a .1) in
     let q = both-yes (isP pn) (isP pm) (p .0) in
-    record { bits = psel-bits size (c .0) offset (ltb-true offset (128 / size) (c .1)); index-ge = leb-true 12 index (d .0); index-lt = ltb-true index 16 (d .1); pn-lt = ltb-true pn 16 (q .0); pm-lt = ltb-true pm 16 (q .1); pd-lt = ltb-true pd 16 (p .1) }
+    record { bits = psel-bits size (c .0) offset (ltb-true offset _ (c .1)); index-ge = leb-true 12 index (d .0); index-lt = ltb-true index 16 (d .1); pn-lt = ltb-true pn 16 (q .0); pm-lt = ltb-true pm 16 (q .1); pd-lt = ltb-true pd 16 (p .1) }
 
 -- the three raw fields of i1:tszh:tszl put together again, and taken apart
 joined : (t : ℕ) → t / 16 * 16 + (t / 8 % 2 * 8 + t % 8) ≡ t

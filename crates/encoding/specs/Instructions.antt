@@ -74,8 +74,12 @@ isZ n = ltb n 32
 abbrev pub pextInRange : ℕ → ℕ → ℕ → ℕ → ℕ → Bool
 pextInRange bound size portion counter pd = isSize size && ltb portion bound && (leb 8 counter && ltb counter 16) && isP pd
 
+-- PSEL's size and offset
+abbrev pub isOffset : ℕ → ℕ → Bool
+isOffset size offset = isSize size && ltb offset (128 / size)
+
 abbrev pub pselInRange : ℕ → ℕ → ℕ → ℕ → ℕ → ℕ → Bool
-pselInRange size offset index pn pm pd = isSize size && ltb offset (128 / size) && (leb 12 index && ltb index 16) && (isP pn && isP pm && isP pd)
+pselInRange size offset index pn pm pd = isOffset size offset && (leb 12 index && ltb index 16) && (isP pn && isP pm && isP pd)
 
 abbrev pub lutiInRange : Bool → ℕ → ℕ → Bool → Bool
 lutiInRange size i1 zn first = size && ltb i1 2 && isZ zn && first
