@@ -43,9 +43,7 @@ pub fn in_range(instruction: Instruction) -> bool {
             pm,
             pd,
         } => {
-            // The size is tested first: 0 must divide nothing.
-            size_index(size).is_some()
-                && offset < 128 / size
+            psel_offset_in_range(size, offset)
                 && (12..=15).contains(&index)
                 && is_predicate(pn)
                 && is_predicate(pm)
@@ -76,6 +74,12 @@ pub fn in_range(instruction: Instruction) -> bool {
                 && is_vector(zd)
         }
     }
+}
+
+/// Whether PSEL has this element size, and this offset at it.
+pub fn psel_offset_in_range(size: u32, offset: u32) -> bool {
+    // The size is tested first: 0 must divide nothing.
+    size_index(size).is_some() && offset < 128 / size
 }
 
 /// The bits of the fields in their places, for fields that are in range.

@@ -1,8 +1,8 @@
 //! # Reference program
 //!
 //! An independent second program for the words of document 01 (`01-scope.md`),
-//! with requests 1 to 3 of document 02 (`02-change-requests.md`): the whole
-//! narrowing family, PSEL, and no answer is 7.
+//! with requests 1 to 3 and 5 of document 02 (`02-change-requests.md`): the
+//! whole narrowing family, PSEL, no answer is 7, and PSEL's index unit.
 //! It was written from the documents alone (01, 02, the source documents 000
 //! to 004 and the list of readings of doubtful points), by a hand that had not
 //! seen the proved library, so that the two can be compared. Nothing here is
@@ -25,6 +25,8 @@
 //! - [`counter`]: the predicate-as-counter and its expansion
 //! - [`operations`]: what the words compute
 //! - [`narrow`](mod@narrow): the same for the sixteen narrowing words
+//! - [`index_unit`](mod@index_unit): PSEL's index, with the adder's sum and the
+//!   mask that the hardware lab makes it from
 //! - [`access`]: which access flags a word needs
 //! - [`step`], [`run`](mod@run): one word, and a stretch of them
 //! - [`touch`](mod@touch): what a word reads and writes, and which words conflict
@@ -67,6 +69,7 @@ pub mod counter;
 pub mod decode;
 pub mod encode;
 pub mod expand;
+pub mod index_unit;
 pub mod instruction;
 pub mod layout;
 pub mod lister;

@@ -7,6 +7,7 @@
 
 use crate::bits::{element, set_element};
 use crate::counter::Counter;
+use crate::index_unit::element_index;
 
 /// One portion of a counter's mask: elements portion·E to portion·E + E − 1
 /// of the instruction's own size, E being VL/size.
@@ -31,10 +32,8 @@ pub fn psel(
     size: u32,
     vl: u32,
 ) -> Vec<bool> {
-    let elements = vl / size;
-    // A sum of whole numbers, which 32 bits need not hold.
-    let index = (u128::from(base) + u128::from(offset)) % u128::from(elements);
-    let chosen = chooser[index as usize * size as usize / 8];
+    let index = element_index(vl, size, offset, base);
+    let chosen = chooser[(index * size / 8) as usize];
     let mut result = Vec::new();
     // Every bit, also those between elements.
     for &bit in copied {

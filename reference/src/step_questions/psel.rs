@@ -6,6 +6,7 @@
 //! override. The rest is anything.
 
 use super::{List, flags};
+use crate::index_unit::element_index;
 use crate::instruction::Form;
 use crate::machine::P_SLOT_BYTES;
 use crate::setting::{VECTOR_LENGTHS, WITHOUT_SME};
@@ -15,10 +16,8 @@ use crate::values::FEATURES_FOR_PSEL;
 /// The bit of Pm that stands for the element at the index.
 pub(super) fn indexed_bit(question: &StepQuestion, fields: [u32; 6]) -> u32 {
     let [size, offset, index, ..] = fields;
-    let base = u64::from(question.start.w[index as usize - 12]);
-    let elements = u64::from(question.start.setting.vl / size);
-    let element = (base + u64::from(offset)) % elements;
-    element as u32 * size / 8
+    let base = question.start.w[index as usize - 12];
+    element_index(question.start.setting.vl, size, offset, base) * size / 8
 }
 
 /// With the element at the index true or false, and all other bits as they
