@@ -24,7 +24,7 @@ extern "C" {
 /* The version of this interface: of the functions, and of the numbers that go in and come out. Each change of it raises
  * the number; what stood here before there was one counts as 1. The constant is what a program was compiled against,
  * the function what it is linked with: where the two differ, the program should not go on. */
-#define GIGHULL_INTERFACE_VERSION 3
+#define GIGHULL_INTERFACE_VERSION 4
 uint32_t gighull_interface_version(void);
 
 /* W12 to W15, PC, and the access flags: V, S and T. */
@@ -94,6 +94,14 @@ uint32_t gighull_decode(uint32_t vl, uint32_t features, uint32_t word, uint32_t 
  * above 6, a narrowing word's number above 15 and a list of another length than 7 are 9. Numbers after a form's own
  * fields, where it has four or five, are not looked at. */
 uint32_t gighull_encode(uint32_t vl, uint32_t features, const uint32_t *fields, size_t fields_len, uint32_t *word);
+
+/* PSEL's index unit, an adder of 32 bits and a mask: which element of Pm a PSEL word of this size and offset reads, where
+ * its W register holds `w`. Answers 0; 1 for a bad VL; then 9 for a size other than 8, 16, 32 and 64 or an offset that is
+ * not below 128/size, which no PSEL word has. `*sum` is set to the low 32 bits of w + offset (the adder wraps), `*mask` to
+ * VL/size - 1, and `*index` to (w + offset) mod (VL/size), which is sum AND mask, also where the sum has wrapped. All three
+ * are set to 0 where the answer is not 0. */
+uint32_t gighull_psel_index(uint32_t vl, uint32_t size, uint32_t offset, uint32_t w, uint32_t *sum, uint32_t *mask,
+                            uint32_t *index);
 
 /* The VL/8 (VL/64) bytes of a Z (P) register of a vector (predicate) file, at the start of `out`; answers how many. The
  * rest of `out` stays. 0, and `out` as it was, for a register number too high, a bad VL, a file of wrong length, or an

@@ -1,5 +1,5 @@
--- The number of the C interface, raised at each change of it. The interface that had no number was the first; the second has form 6 in place of form 5; in the third form 2 is PSEL.
+-- The number of the C interface, raised at each change of it. The interface that had no number was the first; the second has form 6 in place of form 5; in the third form 2 is PSEL; the fourth has PSEL's index unit.
 use Prim.Native.Nat.{ℕ}
 
 abbrev pub interfaceVersion : ℕ
-interfaceVersion = 3
+interfaceVersion = 4

@@ -1,4 +1,5 @@
-// What crosses the C interface as numbers: its version, a reply, the seven numbers of a word, and a register's bytes in a lent buffer.
+// What crosses the C interface as numbers: its version, a reply, the seven numbers of a word, PSEL's index unit, and a register's bytes in a lent buffer.
+pub mod adder;
 pub mod replies;
 
 ghost use mathlib.Core.Path.{_≡_};
@@ -19,7 +20,7 @@ use setting::Setting;
 pub fn interface_version() -> u32
     ensures { λ r. ⌜ r ≡ interfaceVersion ⌝ }
 {
-    3
+    4
 }
 
 // The number of a reading, and its fields in a list of seven.

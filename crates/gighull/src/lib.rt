@@ -11,6 +11,7 @@ ghost use Rattle.listing.specs.Buffer.{Wrote, listedOf, outOf};
 ghost use Rattle.console.specs.Parts.{vectorOf, predicateOf};
 ghost use Rattle.exported.specs.Numbers.{numberIn, yesIn};
 ghost use Rattle.exported.specs.Fields.{readInto, writeOf};
+ghost use Rattle.exported.specs.Index.{indexedOf, indexedAs};
 ghost use Rattle.exported.specs.Buffers.{fitting};
 ghost use Rattle.exported.specs.Version.{interfaceVersion};
 ghost use Rattle.gighull.specs.Calls.{settingOf, writtenAs, listedAs};
@@ -132,6 +133,22 @@ pub extern "C" fn gighull_encode(vl: u32, features: u32, fields: &[u32], word: &
     let answer = encoded.answer;
     *word = encoded.word;
     setting::number(answer)
+}
+
+// PSEL's index unit: the adder's sum, the mask, and the index.
+#[no_mangle]
+pub extern "C" fn gighull_psel_index(
+    vl: u32,
+    size: u32,
+    offset: u32,
+    w: u32,
+    sum: &mut u32,
+    mask: &mut u32,
+    index: &mut u32,
+) -> u32
+    ensures { λ r. ⌜ indexedAs r (now (sum .exit)) (now (mask .exit)) (now (index .exit)) ≡ indexedOf vl size offset w ⌝ }
+{
+    exported::adder::index(vl, size, offset, w, sum, mask, index)
 }
 
 // The bytes of a Z register, and how many they are.

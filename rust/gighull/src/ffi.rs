@@ -33,7 +33,7 @@ pub const ARCHIVE: &str = env!("GIGHULL_ARCHIVE");
 pub const ARCHIVE_HASH: &str = env!("GIGHULL_ARCHIVE_HASH");
 
 /// The functions declared here, by their C names.
-pub const FUNCTIONS: [&str; 10] = [
+pub const FUNCTIONS: [&str; 11] = [
     "gighull_interface_version",
     "gighull_step",
     "gighull_run",
@@ -41,6 +41,7 @@ pub const FUNCTIONS: [&str; 10] = [
     "gighull_encode",
     "gighull_conflict",
     "gighull_permitted",
+    "gighull_psel_index",
     "gighull_vector",
     "gighull_predicate",
     "gighull_lines",
@@ -117,6 +118,15 @@ pub mod c {
             order: *const u32,
             order_len: usize,
             permitted: *mut u32,
+        ) -> u32;
+        pub fn gighull_psel_index(
+            vl: u32,
+            size: u32,
+            offset: u32,
+            w: u32,
+            sum: *mut u32,
+            mask: *mut u32,
+            index: *mut u32,
         ) -> u32;
         pub fn gighull_vector(
             file: *const u8,
@@ -267,6 +277,24 @@ pub fn permitted(vl: u32, features: u32, words: &[u32], order: &[u32], permitted
             permitted,
         )
     }
+}
+
+/// PSEL's index unit: in `sum` the low 32 bits of `w` + `offset`, in `mask` the
+/// vector length divided by the size, less 1, in `index` the element that both
+/// choose, and document 01's number; where that is not 0 all three are 0.
+#[inline]
+pub fn psel_index(
+    vl: u32,
+    size: u32,
+    offset: u32,
+    w: u32,
+    sum: &mut u32,
+    mask: &mut u32,
+    index: &mut u32,
+) -> u32 {
+    // SAFETY: the three numbers are lent for writing and so overlap nothing; they
+    // live through the call and are not kept.
+    unsafe { c::gighull_psel_index(vl, size, offset, w, sum, mask, index) }
 }
 
 /// Copies a Z register's bytes to the start of `out`, and says how many they

@@ -10,6 +10,7 @@
 //! - [`Setting`]: a vector length and a feature number
 //! - [`decode`] and [`encode`], between words and [`Instruction`]s
 //! - [`conflict`] and [`permitted`]: which words may change places
+//! - [`psel_index`]: the sum, mask and index of PSEL's [`IndexUnit`]
 //! - [`lines`]: the listing
 //! - [`Refusal`]: document 01's numbers and words, as an error
 //! - [`ffi`]: the C interface as it stands, for files and lists of any length
@@ -28,6 +29,7 @@
 
 mod element;
 pub mod ffi;
+mod index_unit;
 mod instruction;
 mod machine;
 mod narrowing;
@@ -38,6 +40,7 @@ mod version;
 
 pub use element::NoPlace;
 pub use ffi::{Scalars, interface_version, step};
+pub use index_unit::{IndexUnit, psel_index};
 pub use instruction::{Form, Instruction};
 pub use machine::{
     Machine, P_FILE_BYTES, P_REGISTERS, Z_FILE_BYTES, Z_REGISTERS, ZT0_ENTRIES, ZT0_FILE_BYTES,

@@ -129,6 +129,42 @@ static void parts_and_lines(void) {
         }
 }
 
+static bool is_one_of(uint32_t number, const uint32_t *list, size_t count) {
+    for (size_t i = 0; i < count; i++)
+        if (list[i] == number)
+            return true;
+    return false;
+}
+
+/* What the header says of PSEL's index unit, over whole numbers of 64 bits. */
+static void index_unit(uint32_t vl, uint32_t size, uint32_t offset, uint32_t w) {
+    static const uint32_t VLS[] = {128, 256, 512, 1024, 2048}, SIZES[] = {8, 16, 32, 64};
+    uint32_t expected = 0;
+    if (!is_one_of(vl, VLS, COUNT(VLS)))
+        expected = 1;
+    else if (!is_one_of(size, SIZES, COUNT(SIZES)) || offset >= 128 / size)
+        expected = 9;
+    uint64_t whole = expected ? 0 : (uint64_t)w + offset, elements = expected ? 1 : vl / size;
+    uint32_t *sum = bytes(4, 0xff), *mask = bytes(4, 0xff), *index = bytes(4, 0xff);
+    uint32_t answer = gighull_psel_index(vl, size, offset, w, sum, mask, index);
+    told(answer);
+    if (answer != expected || *sum != whole % (UINT64_C(1) << 32) || *mask != elements - 1 || *index != whole % elements) {
+        printf("the index of VL %u, size %u, offset %u and W %08x\n", vl, size, offset, w);
+        exit(1);
+    }
+    free(sum);
+    free(mask);
+    free(index);
+}
+
+static void index_units(void) {
+    for (size_t v = 0; v < COUNT(NUMBERS); v++)
+        for (size_t s = 0; s < COUNT(NUMBERS); s++)
+            for (size_t o = 0; o < COUNT(NUMBERS); o++)
+                for (size_t w = 0; w < COUNT(NUMBERS); w++)
+                    index_unit(NUMBERS[v], NUMBERS[s], NUMBERS[o], NUMBERS[w]);
+}
+
 int main(void) {
     static const size_t Z[] = {0, 8191, 8192, 8193}, P[] = {0, 511, 512, 513}, ZT[] = {0, 63, 64, 65};
     static const size_t STRETCHES[] = {0, 1, 255, 256, 257, 300};
@@ -145,6 +181,7 @@ int main(void) {
         long_stretches(STRETCHES[i]);
     numbers();
     parts_and_lines();
+    index_units();
     printf("%lu answers; by number:", answers);
     for (int i = 0; i < 10; i++)
         if (i != 7)

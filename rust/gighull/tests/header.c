@@ -64,6 +64,13 @@ static void decode(uint32_t word) {
     printf("\nencode answers %" PRIu32 ": %08" PRIx32 "\n", answer, back);
 }
 
+static void psel_index(uint32_t vl, uint32_t size, uint32_t offset, uint32_t w) {
+    uint32_t sum = 9, mask = 9, index = 9;
+    uint32_t answer = gighull_psel_index(vl, size, offset, w, &sum, &mask, &index);
+    printf("index %" PRIu32 " %" PRIu32 " %" PRIu32 " %08" PRIx32 " answers %" PRIu32, vl, size, offset, w, answer);
+    printf(": %08" PRIx32 " %08" PRIx32 " %" PRIu32 "\n", sum, mask, index);
+}
+
 int main(void) {
     printf("interface version %" PRIu32 ", the header's %d\n", gighull_interface_version(), GIGHULL_INTERFACE_VERSION);
     printf("record size %zu align %zu\n", sizeof(struct gighull_scalars), _Alignof(struct gighull_scalars));
@@ -142,5 +149,19 @@ int main(void) {
     printf("permitted answers %" PRIu32 ": %" PRIu32 "\n", answer, may);
     answer = gighull_permitted(128, 31, stretch, 3, bad, 3, &may);
     printf("not permitted answers %" PRIu32 ": %" PRIu32 "\n", answer, may);
+
+    /* The last element and the first at each length, each size with its greatest offset, and each refusal. */
+    for (uint32_t vl = 128; vl <= 2048; vl *= 2) {
+        psel_index(vl, 8, 0, UINT32_C(0xffffffff));
+        psel_index(vl, 16, 1, UINT32_C(0xffffffff));
+    }
+    for (uint32_t size = 8; size <= 64; size *= 2) {
+        psel_index(256, size, 128 / size - 1, UINT32_C(0xfffffffe));
+        psel_index(256, size, 128 / size, UINT32_C(0xfffffffe));
+    }
+    psel_index(512, 0, 0, 5);
+    psel_index(512, 24, 0, 5);
+    psel_index(129, 8, 0, 5);
+    psel_index(0, 0, UINT32_C(0xffffffff), 5);
     return 0;
 }

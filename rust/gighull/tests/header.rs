@@ -119,6 +119,29 @@ fn decode(word: u32) -> String {
     format!("{read}encode answers {answer}: {back:08x}\n")
 }
 
+fn psel_index(vl: u32, size: u32, offset: u32, w: u32) -> String {
+    let (mut sum, mut mask, mut index) = (9, 9, 9);
+    let answer = ffi::psel_index(vl, size, offset, w, &mut sum, &mut mask, &mut index);
+    format!("index {vl} {size} {offset} {w:08x} answers {answer}: {sum:08x} {mask:08x} {index}\n")
+}
+
+/// The index unit at every length and size, and its refusals.
+fn psel_indexes() -> String {
+    let mut said = String::new();
+    for vl in [128, 256, 512, 1024, 2048] {
+        said.push_str(&psel_index(vl, 8, 0, u32::MAX));
+        said.push_str(&psel_index(vl, 16, 1, u32::MAX));
+    }
+    for size in [8, 16, 32, 64] {
+        said.push_str(&psel_index(256, size, 128 / size - 1, u32::MAX - 1));
+        said.push_str(&psel_index(256, size, 128 / size, u32::MAX - 1));
+    }
+    for (vl, size, offset) in [(512, 0, 0), (512, 24, 0), (129, 8, 0), (0, 0, u32::MAX)] {
+        said.push_str(&psel_index(vl, size, offset, 5));
+    }
+    said
+}
+
 /// The same lines from Rust.
 fn said_by_rust() -> String {
     let mut said = String::new();
@@ -210,6 +233,7 @@ fn said_by_rust() -> String {
     say(format!("permitted answers {answer}: {may}\n"));
     let answer = ffi::permitted(128, 31, &words, &[2, 1, 0], &mut may);
     say(format!("not permitted answers {answer}: {may}\n"));
+    say(psel_indexes());
     said
 }
 
@@ -231,7 +255,7 @@ fn c_and_rust_find_the_same() {
     assert_eq!(c, rust);
     // What they both find is not nothing: words are done, and refused.
     for part in [
-        "interface version 3, the header's 3\n",
+        "interface version 4, the header's 4\n",
         "record size 32 align 8\n",
         "answers 0 z",
         "answers 1 z",
@@ -254,6 +278,23 @@ fn c_and_rust_find_the_same() {
         "\npermitted answers 0: 1\n",
         "\nnot permitted answers 0: 0\n",
         "pc 0000000000000004 ",
+        "\nindex 128 8 0 ffffffff answers 0: ffffffff 0000000f 15\n",
+        "\nindex 128 16 1 ffffffff answers 0: 00000000 00000007 0\n",
+        "\nindex 256 8 0 ffffffff answers 0: ffffffff 0000001f 31\n",
+        "\nindex 512 8 0 ffffffff answers 0: ffffffff 0000003f 63\n",
+        "\nindex 1024 8 0 ffffffff answers 0: ffffffff 0000007f 127\n",
+        "\nindex 2048 8 0 ffffffff answers 0: ffffffff 000000ff 255\n",
+        "\nindex 2048 16 1 ffffffff answers 0: 00000000 0000007f 0\n",
+        "\nindex 256 8 15 fffffffe answers 0: 0000000d 0000001f 13\n",
+        "\nindex 256 16 7 fffffffe answers 0: 00000005 0000000f 5\n",
+        "\nindex 256 32 3 fffffffe answers 0: 00000001 00000007 1\n",
+        "\nindex 256 64 1 fffffffe answers 0: ffffffff 00000003 3\n",
+        "\nindex 256 8 16 fffffffe answers 9: 00000000 00000000 0\n",
+        "\nindex 256 64 2 fffffffe answers 9: 00000000 00000000 0\n",
+        "\nindex 512 0 0 00000005 answers 9: 00000000 00000000 0\n",
+        "\nindex 512 24 0 00000005 answers 9: 00000000 00000000 0\n",
+        "\nindex 129 8 0 00000005 answers 1: 00000000 00000000 0\n",
+        "\nindex 0 0 4294967295 00000005 answers 1: 00000000 00000000 0\n",
     ] {
         assert!(c.contains(part), "{part} is not in\n{c}");
     }
