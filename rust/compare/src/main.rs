@@ -3,7 +3,7 @@
 //! ```text
 //! compare all             N cases of every kind
 //! compare KIND            N cases of one: decode encode step run conflict permitted
-//!                         vector predicate lines
+//!                         vector predicate lines index
 //! compare sweep-decode    all words under the twelve allowed feature numbers
 //!                         [--from WORD] [--to WORD]
 //! compare sweep-encode    every field in its range and just outside, all together
@@ -248,6 +248,7 @@ fn gate(options: &Options) -> Result<(), Problem> {
         (Kind::Vector, 20_000),
         (Kind::Predicate, 20_000),
         (Kind::Lines, 40_000),
+        (Kind::Index, 400_000),
     ] {
         cases(kind, &Options { count, ..*options })?;
     }

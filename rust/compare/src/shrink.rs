@@ -235,13 +235,14 @@ fn setting_of(case: &mut Case) -> Option<&mut Setting> {
         | Case::Run { setting, .. }
         | Case::Conflict { setting, .. }
         | Case::Permitted { setting, .. } => Some(setting),
-        Case::Vector(_) | Case::Predicate(_) | Case::Lines { .. } => None,
+        Case::Vector(_) | Case::Predicate(_) | Case::Lines { .. } | Case::Index(_) => None,
     }
 }
 
 fn vl_of(case: &mut Case) -> Option<&mut u32> {
     match case {
         Case::Vector(request) | Case::Predicate(request) => Some(&mut request.vl),
+        Case::Index(question) => Some(&mut question.vl),
         _ => setting_of(case).map(|setting| &mut setting.vl),
     }
 }
@@ -296,6 +297,9 @@ fn numbers_of(case: &mut Case) -> Vec<&mut u32> {
         Case::Permitted { words, .. } => words.iter_mut().collect(),
         Case::Vector(request) | Case::Predicate(request) => vec![&mut request.register],
         Case::Lines { .. } => Vec::new(),
+        Case::Index(question) => {
+            vec![&mut question.size, &mut question.offset, &mut question.w]
+        }
     }
 }
 

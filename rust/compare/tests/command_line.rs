@@ -44,6 +44,17 @@ fn every_answer_of_a_step_comes() {
 }
 
 #[test]
+fn every_answer_of_an_index_comes() {
+    let report = text(&compare(&["index", "--count", "20000"]).stdout);
+    let (_, answers) = report.split_once("; answers ").unwrap();
+    let numbers: Vec<&str> = answers.split(": ").collect();
+    assert_eq!(numbers.len(), 4, "{report}");
+    for number in ["0: ", ", 1: ", ", 9: "] {
+        assert!(answers.contains(number), "{report}");
+    }
+}
+
+#[test]
 fn a_part_of_the_sweep_counts_what_is_read() {
     let output = compare(&["sweep-decode", "--from", "c08a8000", "--to", "c08abfff"]);
     let report = text(&output.stdout);

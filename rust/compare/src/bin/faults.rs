@@ -144,16 +144,16 @@ const FAULTS: &[Fault] = &[
     Fault {
         name: "index-of-128",
         does: "PSEL's index is taken modulo 128/size at every VL",
-        file: "operations.rs",
-        sound: "% u128::from(elements)",
-        faulty: "% u128::from(128 / size)",
+        file: "index_unit.rs",
+        sound: "% u64::from(vl / size)",
+        faulty: "% u64::from(128 / size)",
     },
     Fault {
         name: "sum-stops",
         does: "the sum of PSEL's index stops at 2^32 - 1",
-        file: "operations.rs",
-        sound: "(u128::from(base) + u128::from(offset)) %",
-        faulty: "u128::from(base.saturating_add(offset)) %",
+        file: "index_unit.rs",
+        sound: "(whole_sum(offset, w) % u64::from(",
+        faulty: "(u64::from(w.saturating_add(offset)) % u64::from(",
     },
     Fault {
         name: "registers-exchanged",
@@ -294,6 +294,51 @@ const FAULTS: &[Fault] = &[
         faulty: "if words[earlier] != words[later]
                 && earlier < later
                 && touches_conflict",
+    },
+    Fault {
+        name: "mask-too-long",
+        does: "the mask of the index unit has one bit more",
+        file: "index_unit.rs",
+        sound: "mask: vl / size - 1,",
+        faulty: "mask: 2 * (vl / size) - 1,",
+    },
+    Fault {
+        name: "mask-too-short",
+        does: "the mask of the index unit has one bit less",
+        file: "index_unit.rs",
+        sound: "mask: vl / size - 1,",
+        faulty: "mask: vl / size / 2 - 1,",
+    },
+    Fault {
+        name: "adder-stops",
+        does: "the adder of the index unit stops at 2^32 - 1",
+        file: "index_unit.rs",
+        sound: "sum: (whole_sum(offset, w) % (1 << 32)) as u32,",
+        faulty: "sum: w.saturating_add(offset),",
+    },
+    Fault {
+        name: "offset-left-out",
+        does: "the adder of the index unit does not add the offset",
+        file: "index_unit.rs",
+        sound: "sum: (whole_sum(offset, w) % (1 << 32)) as u32,",
+        faulty: "sum: w,",
+    },
+    Fault {
+        name: "any-offset",
+        does: "the index unit takes an offset that no word has",
+        file: "index_unit.rs",
+        sound: "if !psel_offset_in_range(size, offset) {",
+        faulty: "if !psel_offset_in_range(size, 0) {",
+    },
+    Fault {
+        name: "range-before-length",
+        does: "the index unit answers 9 before 1",
+        file: "index_unit.rs",
+        sound: "if !vl_is_allowed(vl) {",
+        faulty: "if !psel_offset_in_range(size, offset) {
+        return Err(Refusal::Range);
+    }
+    if !vl_is_allowed(vl) {",
     },
 ];
 

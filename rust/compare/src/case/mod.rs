@@ -16,7 +16,8 @@ mod shown;
 use reference::machine::Machine;
 use reference::setting::Setting;
 
-/// An exported function of the library.
+/// An exported function of the library. A new one comes last: its place is in the
+/// seeds of its cases.
 #[derive(Clone, Copy, Debug, PartialEq, Eq, Hash)]
 pub enum Kind {
     Decode,
@@ -28,10 +29,11 @@ pub enum Kind {
     Vector,
     Predicate,
     Lines,
+    Index,
 }
 
 impl Kind {
-    pub const ALL: [Kind; 9] = [
+    pub const ALL: [Kind; 10] = [
         Kind::Decode,
         Kind::Encode,
         Kind::Step,
@@ -41,6 +43,7 @@ impl Kind {
         Kind::Vector,
         Kind::Predicate,
         Kind::Lines,
+        Kind::Index,
     ];
 
     pub fn name(self) -> &'static str {
@@ -54,6 +57,7 @@ impl Kind {
             Kind::Vector => "vector",
             Kind::Predicate => "predicate",
             Kind::Lines => "lines",
+            Kind::Index => "index",
         }
     }
 
@@ -101,6 +105,7 @@ pub enum Case {
         /// The length of the buffer for the text.
         room: usize,
     },
+    Index(IndexQuestion),
 }
 
 /// A console's question for a register's bytes.
@@ -111,6 +116,15 @@ pub struct Request {
     pub register: u32,
     /// The length of the buffer for the bytes.
     pub room: usize,
+}
+
+/// What PSEL's index unit is asked.
+#[derive(Clone, Copy, Debug, PartialEq, Eq)]
+pub struct IndexQuestion {
+    pub vl: u32,
+    pub size: u32,
+    pub offset: u32,
+    pub w: u32,
 }
 
 impl Case {
@@ -125,6 +139,7 @@ impl Case {
             Case::Vector(_) => Kind::Vector,
             Case::Predicate(_) => Kind::Predicate,
             Case::Lines { .. } => Kind::Lines,
+            Case::Index(_) => Kind::Index,
         }
     }
 }
@@ -168,5 +183,11 @@ mod tests {
             assert!(Case::parse(&bad).is_err(), "{bad}");
         }
         assert!(Case::parse("").is_err());
+        let good = "index vl=128 size=16 offset=1 w=ffffffff";
+        assert!(Case::parse(good).is_ok());
+        for (part, other) in [("w=ffffffff", ""), ("size=16", "size=h"), ("w=", "w=0,")] {
+            let bad = good.replace(part, other);
+            assert!(Case::parse(&bad).is_err(), "{bad}");
+        }
     }
 }

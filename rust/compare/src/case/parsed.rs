@@ -3,7 +3,7 @@
 use reference::machine::{Flags, Machine};
 use reference::setting::Setting;
 
-use super::{Case, Kind, Request};
+use super::{Case, IndexQuestion, Kind, Request};
 
 impl Case {
     pub fn parse(text: &str) -> Result<Case, String> {
@@ -47,6 +47,7 @@ impl Case {
                 input: given.file("input")?,
                 room: given.number("room")?,
             },
+            Kind::Index => Case::Index(given.index_question()?),
         };
         given.nothing_left()?;
         Ok(case)
@@ -141,6 +142,15 @@ impl<'a> Given<'a> {
             vl: self.number("vl")?,
             register: self.number("register")?,
             room: self.number("room")?,
+        })
+    }
+
+    fn index_question(&mut self) -> Result<IndexQuestion, String> {
+        Ok(IndexQuestion {
+            vl: self.number("vl")?,
+            size: self.number("size")?,
+            offset: self.number("offset")?,
+            w: self.word("w")?,
         })
     }
 }

@@ -5,7 +5,7 @@ use std::fmt::{self, Write};
 use reference::machine::{Flags, Machine};
 use reference::setting::Setting;
 
-use super::{Case, Request};
+use super::{Case, IndexQuestion, Request};
 
 impl fmt::Display for Case {
     fn fmt(&self, out: &mut fmt::Formatter) -> fmt::Result {
@@ -72,6 +72,15 @@ impl fmt::Display for Case {
             }
             Case::Lines { input, room } => {
                 write!(out, " room={room} input={}", shown_file(input))
+            }
+            Case::Index(question) => {
+                let IndexQuestion {
+                    vl,
+                    size,
+                    offset,
+                    w,
+                } = question;
+                write!(out, " vl={vl} size={size} offset={offset} w={w:08x}")
             }
         }
     }

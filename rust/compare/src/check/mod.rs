@@ -9,6 +9,7 @@ mod lent;
 use std::panic::{AssertUnwindSafe, catch_unwind};
 
 use gighull::ffi;
+use reference::index_unit::index_unit;
 use reference::instruction::{Form, Instruction};
 use reference::machine::{Machine, P_FILE_BYTES, Z_FILE_BYTES};
 use reference::rearrangement::{Permission, permitted};
@@ -16,7 +17,7 @@ use reference::refusal::{Refusal, number_of};
 use reference::setting::{Setting, vl_is_allowed};
 
 use self::lent::{Lent, LentMachine};
-use crate::case::{Case, Request};
+use crate::case::{Case, IndexQuestion, Request};
 
 /// What both answer: a number (for a register's bytes and for lines, 0), and
 /// whether it comes with a yes or with bytes.
@@ -76,6 +77,7 @@ fn check_calmly(case: &Case) -> Checked {
         Case::Vector(request) => vector(request),
         Case::Predicate(request) => predicate(request),
         Case::Lines { input, room } => lines(input, *room),
+        Case::Index(question) => index(*question),
     }
 }
 
@@ -274,4 +276,27 @@ fn lines(input: &[u8], room: usize) -> Checked {
     out.same_as(&expected, "text ", usize::MAX)?;
     let yes = written > 0;
     Ok(Agreed { number: 0, yes })
+}
+
+fn index(question: IndexQuestion) -> Checked {
+    let IndexQuestion {
+        vl,
+        size,
+        offset,
+        w,
+    } = question;
+    let answer = index_unit(vl, size, offset, w);
+    let number = number_of(&answer);
+    let expected = answer.map_or([0; 3], |unit| [unit.sum, unit.mask, unit.index]);
+    let mut lent = [WORD_MARK; 7];
+    let [_, sum, _, mask, _, index, _] = &mut lent;
+    let found = ffi::psel_index(vl, size, offset, w, sum, mask, index);
+    let [a, sum, b, mask, c, index, d] = lent;
+    same(
+        "answer and sum, mask, index",
+        (number, expected),
+        (found, [sum, mask, index]),
+    )?;
+    same("marks beside them", [WORD_MARK; 4], [a, b, c, d])?;
+    agreed(number)
 }

@@ -1,6 +1,7 @@
 //! Seeded cases: random and structured, sound and damaged.
 
 mod edges;
+mod indexes;
 mod machines;
 mod orders;
 mod settings;
@@ -10,6 +11,7 @@ use reference::random::Random;
 use reference::setting::VECTOR_LENGTHS;
 
 use self::edges::fill_source;
+use self::indexes::index_question;
 use self::machines::{any_bytes, damage_length, machine};
 use self::orders::permitted;
 use self::settings::{length_of_no_vector, setting};
@@ -71,6 +73,7 @@ pub fn draw(kind: Kind, random: &mut Random) -> Case {
         Kind::Vector => Case::Vector(request(random, 32, 256, 8)),
         Kind::Predicate => Case::Predicate(request(random, 16, 32, 64)),
         Kind::Lines => lines(random),
+        Kind::Index => Case::Index(index_question(random)),
     }
 }
 
