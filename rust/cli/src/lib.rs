@@ -6,13 +6,14 @@
 //! which [`files`] puts down whole or not at all. The other commands are in [`words`](mod@words).
 //!
 //! Nothing here decides what a word does: every answer is the library's. What
-//! is told beside it ([`touch`], [`view`], [`counter`]) is tested against the
-//! reference.
+//! is told beside it ([`touch`], [`view`], [`counter`], [`index_unit`]) is tested
+//! against the reference.
 
 pub mod command;
 pub mod counter;
 pub mod failure;
 pub mod files;
+pub mod index_unit;
 pub mod lesson;
 pub mod paint;
 pub mod plot;

@@ -5,6 +5,7 @@ use std::fmt::Write;
 use gighull::{Machine, Refusal, decode};
 
 use crate::counter;
+use crate::index_unit;
 use crate::lesson::{Show, Word, feature_names};
 use crate::paint::Paint;
 use crate::register::Register;
@@ -111,17 +112,41 @@ impl Report<'_> {
         for (place, word) in lesson.words.iter().enumerate().take(tried) {
             let before = machine.clone();
             let refusal = machine.step(*setting, word.word).err();
-            text.push_str(&self.paint.name(&self.named(place, word)));
-            let _ = write!(text, "\nanswer   {}", self.answer_of(refusal));
-            let (from, to) = (before.scalars.pc, machine.scalars.pc);
-            let _ = writeln!(text, "; pc {from:#x} -> {to:#x}");
-            let shows = self.shows_of_changed(&before, &machine);
-            let views = self.views(place + 1);
-            let sides = [("before", &before), ("after", &machine)];
-            text.push_str(&self.changes(sides, &shows, &views));
-            text.push('\n');
+            text.push_str(&self.step(place, word, refusal, [&before, &machine]));
         }
         text
+    }
+
+    /// A word's block: its answer, PC, PSEL's index, and what changed.
+    fn step(
+        &self,
+        place: usize,
+        word: &Word,
+        refusal: Option<Refusal>,
+        [before, after]: [&Machine; 2],
+    ) -> String {
+        let mut text = self.paint.name(&self.named(place, word));
+        let _ = write!(text, "\nanswer   {}", self.answer_of(refusal));
+        let (from, to) = (before.scalars.pc, after.scalars.pc);
+        let _ = writeln!(text, "; pc {from:#x} -> {to:#x}");
+        if refusal.is_none()
+            && let Some(index) = self.index(word, before)
+        {
+            let _ = writeln!(text, "index    {index}");
+        }
+        let shows = self.shows_of_changed(before, after);
+        let views = self.views(place + 1);
+        let sides = [("before", before), ("after", after)];
+        text.push_str(&self.changes(sides, &shows, &views));
+        text.push('\n');
+        text
+    }
+
+    /// How a word that was done chose its element, if it chose one.
+    fn index(&self, word: &Word, before: &Machine) -> Option<String> {
+        let setting = self.session.setting;
+        let instruction = decode(setting, word.word).ok()?;
+        index_unit::told(instruction, before, setting.vl)
     }
 
     /// What registers hold after the first words of the stretch.

@@ -90,7 +90,11 @@ fn unknown_name(random: &mut Random, text: &str) -> Vec<u8> {
 /// positions than words.
 fn too_many(random: &mut Random, text: &str) -> Vec<u8> {
     let mut lines: Vec<String> = text.lines().map(str::to_string).collect();
-    let is_list = |line: &str| line.contains(".s = ") || line.contains(".n  = ");
+    let is_list = |line: &str| {
+        [".s = ", ".n  = ", ".h = "]
+            .iter()
+            .any(|name| line.contains(name))
+    };
     let may_grow = |line: &str| line.contains(" first ") || line.starts_with("order ");
     let places: Vec<usize> = (0..lines.len())
         .filter(|&at| !lines[at].starts_with('#'))

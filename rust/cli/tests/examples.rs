@@ -113,7 +113,7 @@ fn examples_of_the_lessons_page() {
         .iter()
         .filter(|example| !example.lines.is_empty())
         .collect();
-    assert!(runs.len() >= 7, "{}", runs.len());
+    assert!(runs.len() >= 9, "{}", runs.len());
     for example in runs {
         check(example, Path::new(ROOT));
     }

@@ -3,14 +3,40 @@
 mod support;
 
 use std::fs;
+use std::ops::Range;
 use std::path::Path;
 
-use reference::setting::VECTOR_LENGTHS;
-use support::by_reference::{elements, lesson};
+use reference::decode::decode;
+use reference::index_unit::{IndexUnit, index_unit};
+use reference::setting::{FULL, VECTOR_LENGTHS};
+use support::by_reference::{Lesson, elements, lesson};
 use support::told::{Compared, compare};
 use support::{LESSONS, ROOT, folder, lesson_text, told};
 
-/// The stored outputs, with the vector length that the name says.
+/// A stored output, such as `adder-vl256-steps`: its lesson, by the reference at the
+/// vector length that the name says, and whether it has steps.
+fn named(stem: &str) -> (Lesson, bool) {
+    let mut parts = stem.split('-');
+    let text = lesson_text(parts.next().unwrap());
+    let (mut vl, mut steps) = (None, false);
+    for part in parts {
+        match part.strip_prefix("vl") {
+            Some(length) => vl = Some(length.parse().unwrap()),
+            None => {
+                assert_eq!(part, "steps");
+                steps = true;
+            }
+        }
+    }
+    (lesson(&text, vl), steps)
+}
+
+/// How many of a lesson's words are PSEL, and so have an index.
+fn psel_words(lesson: &Lesson) -> usize {
+    let is_psel = |word: &&u32| decode(FULL, **word).unwrap().name() == "PSEL";
+    lesson.words.iter().filter(is_psel).count()
+}
+
 #[test]
 fn stored_outputs_are_the_reference_s() {
     let mut count = 0;
@@ -20,21 +46,16 @@ fn stored_outputs_are_the_reference_s() {
             continue;
         }
         let stem = path.file_stem().unwrap().to_str().unwrap();
-        let (name, rest) = stem.split_once('-').unwrap_or((stem, ""));
-        let vl = rest.strip_prefix("vl").map(|vl| vl.parse().unwrap());
-        let expected = lesson(&lesson_text(name), vl);
+        let (expected, steps) = named(stem);
         let found = compare(&fs::read_to_string(&path).unwrap(), &expected);
         assert!(found.registers > 0, "{stem}: {found:?}");
         assert_eq!(found.orders, expected.orders.len());
-        let steps = if rest == "steps" {
-            expected.words.len()
-        } else {
-            0
-        };
-        assert_eq!(found.steps, steps);
+        let words = [expected.words.len(), psel_words(&expected)];
+        let told = if steps { words } else { [0; 2] };
+        assert_eq!([found.steps, found.indexes], told, "{stem}");
         count += 1;
     }
-    assert!(count >= 8, "{count}");
+    assert!(count >= 10, "{count}");
 }
 
 #[test]
@@ -47,17 +68,20 @@ fn every_vector_length_is_the_reference_s() {
             let Compared {
                 registers,
                 steps,
+                indexes,
                 orders,
                 ..
             } = compare(&text, &expected);
             assert!(registers > 3, "{name} at {vl}");
             assert_eq!(steps, expected.words.len());
+            assert_eq!(indexes, psel_words(&expected));
             assert_eq!(orders, expected.orders.len());
         }
     }
 }
 
-/// A wrong number, a register left out, a wrong verdict: each is noticed.
+/// A wrong number, a register left out, a wrong verdict, an index line left out or
+/// too much: each is noticed.
 #[test]
 fn the_comparison_notices() {
     let stored = |name: &str| {
@@ -78,6 +102,8 @@ fn the_comparison_notices() {
     let order = stored("order");
     let signed = stored("signed");
     let psel = stored("psel");
+    let steps = "adder-vl256-steps";
+    let adder = stored(steps);
     let wrong = [
         ("diode", diode.replace("17387", "17388")),
         ("diode", diode.replace("0x10", "0x14")),
@@ -97,10 +123,22 @@ fn the_comparison_notices() {
         ("signed", without(&signed, "z8.h", 2)),
         ("psel", psel.replace("after    0: 01", "after    0: 00")),
         ("psel", without(&psel, "p4.b", 2)),
+        (steps, adder.replace("+ offset 1 =", "+ offset 2 =")),
+        (steps, adder.replace("sum 0x00000000", "sum 0x00000001")),
+        (steps, adder.replace(", wrapped", "")),
+        (steps, adder.replace("mask 0x0000000f", "mask 0x0000001f")),
+        (steps, adder.replace("= index 15", "= index 7")),
+        (steps, adder.replace("p1.h element", "p0.h element")),
+        (steps, adder.replace("element 15 is 0", "element 15 is 1")),
+        (steps, without(&adder, "index ", 1)),
+        (
+            steps,
+            adder.replace("p1.h  unchanged", "index    w12\np1.h  unchanged"),
+        ),
     ];
     for (place, (name, text)) in wrong.into_iter().enumerate() {
         assert_ne!(text, stored(name), "edit {place} edits nothing");
-        let expected = lesson(&lesson_text(name), None);
+        let (expected, _) = named(name);
         let noticed = std::panic::catch_unwind(|| compare(&text, &expected));
         assert!(noticed.is_err(), "edit {place} is not noticed");
     }
@@ -196,25 +234,71 @@ fn the_wave_is_cut_at_each_end() {
     assert_eq!(finer, [0, 13258, 18750, 13258, 0, -13258, -18750, -13258]);
 }
 
+/// Whether each of these registers ends as a copy of P0, the nodes; else it is
+/// without a node.
+fn have_the_nodes(text: &str, vl: u32, registers: Range<u32>) -> Vec<bool> {
+    let found = lesson(text, Some(vl));
+    let nodes = elements(&found.start, "p0.b", vl);
+    let has = |register| {
+        let told = elements(&found.end, &format!("p{register}.b"), vl);
+        let none = told.iter().all(|&bit| bit == 0);
+        assert!(none || told == nodes, "p{register} at VL {vl}");
+        !none
+    };
+    registers.map(has).collect()
+}
+
 /// What the page says of the switch: which steps have the nodes, where a register
 /// has an element for four of them and where it has one for more.
 #[test]
 fn the_steps_come_round() {
     let text = lesson_text("psel");
-    for (vl, closed) in [
-        (128, [false, true, true, false]),
-        (256, [false, true, false, false]),
-    ] {
-        let found = lesson(&text, Some(vl));
-        let nodes = elements(&found.start, "p0.b", vl);
-        for (register, closed) in (4..).zip(closed) {
-            let expected = if closed {
-                nodes.clone()
-            } else {
-                vec![0; nodes.len()]
-            };
-            let told = elements(&found.end, &format!("p{register}.b"), vl);
-            assert_eq!(told, expected, "p{register} at VL {vl}");
+    let steps = |vl| have_the_nodes(&text, vl, 4..8);
+    assert_eq!(steps(128), [false, true, true, false]);
+    assert_eq!(steps(256), [false, true, false, false]);
+}
+
+/// What the page says of the steps -1, 0 and 6, and of P1 with two periods.
+#[test]
+fn the_step_before_0_is_the_last_element() {
+    let text = lesson_text("adder");
+    let steps = |text: &str, vl| have_the_nodes(text, vl, 4..7);
+    assert_eq!(steps(&text, 128), [true, true, false]);
+    assert_eq!(steps(&text, 256), [false, true, false]);
+    let values = "p1.h = 1 0 0 0 0 0 0 1";
+    let twice = text.replace(values, &format!("{values} repeat"));
+    assert_ne!(twice, text);
+    assert_eq!(steps(&twice, 256), [true, true, false]);
+}
+
+/// A row of the page's bits: a name, bit 32 if it is shown, and bits 31 to 0 in fours.
+fn row(name: &str, carry: &str, number: u32, words: &str) -> String {
+    let digits: Vec<char> = format!("{number:032b}").chars().collect();
+    let fours: Vec<String> = digits.chunks(4).map(String::from_iter).collect();
+    let bits = fours.join(" ");
+    format!("    {name:<13}  {carry:<1} {bits}  {words}\n")
+}
+
+/// The page's bits of two words of the lesson are the reference's.
+#[test]
+fn the_page_has_the_adder_s_bits() {
+    let page = fs::read_to_string(Path::new(ROOT).join("docs/LESSONS.md")).unwrap();
+    let w = lesson(&lesson_text("adder"), None).start.w[0];
+    let hex = |number: u32| format!("{number:08x}");
+    for offset in [0, 7] {
+        let unit = |vl| index_unit(vl, 16, offset, w).unwrap();
+        let sum = unit(128).sum;
+        let carry = (u64::from(w) + u64::from(offset)) >> 32;
+        let words = "the bit in front is the carry";
+        let mut rows = row("W", "", w, &hex(w)) + &row("offset", "", offset, &hex(offset));
+        rows += &row("W + offset", &carry.to_string(), sum, words);
+        rows += &row("sum", "", sum, &hex(sum));
+        for vl in [128, 256] {
+            let IndexUnit { mask, index, .. } = unit(vl);
+            rows += &row(&format!("mask, VL {vl}"), "", mask, &hex(mask));
+            let element = format!("element {index}");
+            rows += &row(&format!("index, VL {vl}"), "", index, &element);
         }
+        assert!(page.contains(&rows), "{rows}");
     }
 }

@@ -6,16 +6,7 @@ use std::fs;
 use std::io::Read;
 use std::path::Path;
 
-use support::{ROOT, complaint, folder, gighull, gighull_in, names_in, out, told, wrong};
-
-/// A lesson with this text, run in its folder.
-fn lesson(folder: &Path, text: &str, options: &[&str], status: i32) -> String {
-    fs::write(folder.join("some.lesson"), text).unwrap();
-    let output = gighull_in(folder, &[&["run", "some.lesson"], options].concat());
-    assert_eq!(complaint(&output), "", "{text}");
-    assert_eq!(output.status.code(), Some(status), "{text}");
-    out(&output)
-}
+use support::{ROOT, complaint, folder, gighull, gighull_in, names_in, told, told_of, wrong};
 
 fn has_all(told: &str, parts: &[&str]) {
     for part in parts {
@@ -27,7 +18,7 @@ fn has_all(told: &str, parts: &[&str]) {
 fn answers_of_a_run() {
     let folder = folder("answers");
     let said = |text: &str, status, parts: &[&str]| {
-        has_all(&lesson(&folder, text, &[], status), parts);
+        has_all(&told_of(&folder, text, &[], status), parts);
     };
     said(
         "end",
@@ -86,7 +77,7 @@ fn answers_of_a_run() {
         ],
     );
     // Without words done there are no blocks either.
-    let blocks = lesson(&folder, &long, &["--steps"], 2);
+    let blocks = told_of(&folder, &long, &["--steps"], 2);
     assert!(!blocks.contains("\nword "));
 }
 
@@ -97,7 +88,7 @@ fn other_contents() {
     let folder = folder("contents");
     let text = "vl 256\np3 = bits 1 1 1 0 1\np1.b = 1 1 0 0 repeat\nw13 = 0xffffffff\n\
                 PSEL size=16 offset=1 index=13 pn=1 pm=3 pd=3\nend\n";
-    let told = lesson(&folder, text, &[], 0);
+    let told = told_of(&folder, text, &[], 0);
     // Index (2^32 - 1 + 1) mod 16 is 0, which is true: all of p1.
     let block = "p3.b  before   0: 11101000 00000000 00000000 00000000\n      \
                  after    0: 11001100 11001100 11001100 11001100\n";
@@ -110,9 +101,9 @@ fn other_contents() {
         "p8.d  before  all 0\n",
         "p8.b  before  all 0\n",
     ];
-    has_all(&lesson(&folder, text, &[], 0), &parts);
+    has_all(&told_of(&folder, text, &[], 0), &parts);
     let copies = "45283801\n45283801\norder 1 0\nend";
-    let told = lesson(&folder, copies, &[], 0);
+    let told = told_of(&folder, copies, &[], 0);
     assert!(
         told.contains("forbidden: word 0 writes z1 and word 1 writes it, and"),
         "{told}"
@@ -122,11 +113,11 @@ fn other_contents() {
         "{told}"
     );
     let refused = "45283801\n00000000\norder 1 0\nend";
-    let told = lesson(&folder, refused, &[], 2);
+    let told = told_of(&folder, refused, &[], 2);
     assert!(told.contains("no answer: 3: undefined"), "{told}");
     assert!(told.contains("so nothing is promised"), "{told}");
     let cut = "vl 256\nz0.b = 0..31\npn8 = counter b first 100\nend";
-    let told = lesson(&folder, cut, &["--vl", "128"], 0);
+    let told = told_of(&folder, cut, &["--vl", "128"], 0);
     assert!(told.contains("note     line 2 lists 32 elements of z0.b, and at VL 128 the first 16"));
     assert!(
         told.contains("note     line 3 counts 100 elements, and at VL 128 four registers have 64")
@@ -139,7 +130,7 @@ fn results_with_and_without_signs() {
     let folder = folder("signs");
     let ends = |word: &str, end: &str| {
         let text = format!("z0.h = -300 300 -1 5\n{word} size=8 shift=1 zn=0 zd=1\nend\n");
-        let told = lesson(&folder, &text, &[], 0);
+        let told = told_of(&folder, &text, &[], 0);
         assert!(told.ends_with(end), "{told}");
     };
     // -150 and 150 are cut, and -1/2 goes down.
@@ -178,7 +169,7 @@ fn results_with_and_without_signs() {
         "z2.h  unchanged  0: -1  0  0  0  0  0  0  0\n",
         "z2.s  unchanged  0: 65535     0     0     0\n",
     ];
-    has_all(&lesson(&folder, text, &[], 0), &parts);
+    has_all(&told_of(&folder, text, &[], 0), &parts);
 }
 
 /// What PSEL copies is told as it was given where it comes from, and by PSEL's
@@ -192,7 +183,7 @@ fn copies_are_told_as_what_is_copied() {
                 PSEL size=8 offset=0 index=12 pn=4 pm=2 pd=5\n\
                 PSEL size=32 offset=0 index=12 pn=8 pm=2 pd=6\n\
                 PSEL size=32 offset=0 index=12 pn=9 pm=2 pd=7\nend\n";
-    let told = lesson(&folder, text, &[], 0);
+    let told = told_of(&folder, text, &[], 0);
     let blocks = "p4.h  before  0: 10001000\n      after   0: 10100000\n\
                   p5.h  before  all 0\n      after   0: 10100000\n\
                   p6.s  before  all 0\n      after   0: 1100\n\

@@ -83,7 +83,9 @@ pub fn lesson(text: &str, vl: Option<u32>) -> Lesson {
             }
             [name, "=", value] if name.starts_with('w') => {
                 let place: usize = name[1..].parse().unwrap();
-                start.w[place - 12] = value.parse().unwrap();
+                let hex = value.strip_prefix("0x");
+                let hex = hex.map(|digits| u32::from_str_radix(digits, 16).unwrap());
+                start.w[place - 12] = hex.unwrap_or_else(|| value.parse().unwrap());
             }
             [name, "=", values @ ..] => {
                 if values.iter().any(|value| value.starts_with('-')) {

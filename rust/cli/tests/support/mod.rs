@@ -9,7 +9,7 @@ use std::path::{Path, PathBuf};
 use std::process::{Command, Output};
 
 pub const ROOT: &str = concat!(env!("CARGO_MANIFEST_DIR"), "/../..");
-pub const LESSONS: [&str; 5] = ["diode", "counters", "order", "signed", "psel"];
+pub const LESSONS: [&str; 6] = ["diode", "counters", "order", "signed", "psel", "adder"];
 
 /// The command, from the repository's root, where lessons have short names.
 pub fn gighull(arguments: &[&str]) -> Output {
@@ -33,6 +33,16 @@ pub fn told(arguments: &[&str], status: i32) -> String {
     let output = gighull(arguments);
     assert_eq!(complaint(&output), "", "{arguments:?}");
     assert_eq!(output.status.code(), Some(status), "{arguments:?}");
+    out(&output)
+}
+
+/// What a lesson with this text prints, run in the folder; it must end with that
+/// status and without a complaint.
+pub fn told_of(folder: &Path, text: &str, options: &[&str], status: i32) -> String {
+    fs::write(folder.join("some.lesson"), text).unwrap();
+    let output = gighull_in(folder, &[&["run", "some.lesson"], options].concat());
+    assert_eq!(complaint(&output), "", "{text}");
+    assert_eq!(output.status.code(), Some(status), "{text}");
     out(&output)
 }
 

@@ -4,9 +4,13 @@ use std::collections::BTreeMap;
 
 use super::by_reference::{Lesson, counter_bits};
 use reference::counter::Counter;
+use reference::decode::decode;
+use reference::index_unit::{IndexUnit, index_unit};
+use reference::instruction::Instruction;
 use reference::machine::Machine;
 use reference::rearrangement::{Permission, permitted};
 use reference::run::run;
+use reference::setting::Setting;
 use reference::step::step;
 
 /// How much was compared, so that a test can see that it was not nothing.
@@ -15,6 +19,8 @@ pub struct Compared {
     pub registers: usize,
     pub counters: usize,
     pub steps: usize,
+    /// PSEL's index lines.
+    pub indexes: usize,
     pub orders: usize,
 }
 
@@ -54,16 +60,10 @@ pub fn compare(text: &str, lesson: &Lesson) -> Compared {
                 finish(pair.take(), lesson, &mut compared);
                 let place: usize = place.trim_end_matches(',').parse().unwrap();
                 assert_eq!(place, compared.steps);
-                let expected = lesson.words[place];
-                assert_eq!(*word, format!("{expected:08x}"));
-                let first = stepped.clone();
-                step(lesson.setting, expected, &mut stepped).unwrap();
-                let (from, to) = (first.pc, stepped.pc);
-                let answer = format!("answer   0: done; pc {from:#x} -> {to:#x}");
-                assert_eq!(lines.next(), Some(&*answer));
-                compared.steps += 1;
-                pair = Some(Pair::new(first, stepped.clone(), compared.steps));
+                assert_eq!(*word, format!("{:08x}", lesson.words[place]));
+                pair = Some(one_step(&mut lines, &mut stepped, lesson, &mut compared));
             }
+            ["index", ..] => panic!("no PSEL word has this line: {line}"),
             ["answer", "0:", "done"] => {
                 finish(pair.take(), lesson, &mut compared);
                 assert_eq!(lesson.answer, 0);
@@ -144,6 +144,52 @@ impl Pair {
             }
         }
     }
+}
+
+/// A word's lines above its registers: its answer, PC, and the index of a PSEL word.
+fn one_step<'a>(
+    lines: &mut impl Iterator<Item = &'a str>,
+    machine: &mut Machine,
+    lesson: &Lesson,
+    compared: &mut Compared,
+) -> Pair {
+    let word = lesson.words[compared.steps];
+    let first = machine.clone();
+    step(lesson.setting, word, machine).unwrap();
+    let (from, to) = (first.pc, machine.pc);
+    let answer = format!("answer   0: done; pc {from:#x} -> {to:#x}");
+    assert_eq!(lines.next(), Some(&*answer));
+    if let Some(index) = index_line(lesson.setting, word, &first) {
+        assert_eq!(lines.next(), Some(&*index));
+        compared.indexes += 1;
+    }
+    compared.steps += 1;
+    Pair::new(first, machine.clone(), compared.steps)
+}
+
+/// What is said of a PSEL word's index, by the machine before the word.
+fn index_line(setting: Setting, word: u32, before: &Machine) -> Option<String> {
+    let Ok(Instruction::Psel {
+        size,
+        offset,
+        index: register,
+        pm,
+        ..
+    }) = decode(setting, word)
+    else {
+        return None;
+    };
+    let w = before.w[register as usize - 12];
+    let IndexUnit { sum, mask, index } = index_unit(setting.vl, size, offset, w).unwrap();
+    let carry = (u64::from(w) + u64::from(offset)) >> 32;
+    let wrapped = ["", ", wrapped"][carry as usize];
+    let letter = ["b", "h", "s", "d"][size.ilog2() as usize - 3];
+    let truth = before.predicate(pm, setting.vl)[(index * size / 8) as usize];
+    Some(format!(
+        "index    w{register} 0x{w:08x} + offset {offset} = sum 0x{sum:08x}{wrapped}; \
+         sum AND mask 0x{mask:08x} = index {index}; p{pm}.{letter} element {index} is {}",
+        u8::from(truth)
+    ))
 }
 
 /// What was told of two machines is right, and is all.
