@@ -9,7 +9,7 @@ use Rattle.element.specs.Size.{isSize}
 use Rattle.index.specs.Index.{indexOf, adderSum, indexMask}
 use Rattle.index.specs.Points.{adderPoints}
 
--- the bits that the mask keeps of the adder's sum are the index, also where the sum wraps: for every W and offset, whatever their size
+-- the bits that the mask keeps of the adder's sum are the index, also where the sum wraps: for all whole numbers W and offset, so for all that a word can have
 abbrev pub AdderAgrees : Type 0
 AdderAgrees =
     (vl size w offset : ℕ)
