@@ -1,15 +1,16 @@
 -- What the definition of the index unit over C is in each case: the tests that the code has are put into it.
-use mathlib.Core.Path.{_≡_, refl, ap, _∙_}
+use mathlib.Core.Path.{_≡_, ap, _∙_}
 use mathlib.Core.Bool.{true, false}
-use Prim.Native.Nat.{ℕ, _/_}
+use Prim.Native.Nat.{ℕ}
 use lib.Dec.{ltb}
 use Rattle.setting.specs.Allowed.{lengthAllowed}
+use Rattle.logic.specs.Pick.{pick}
 use Rattle.element.specs.Size.{isSize}
 use Rattle.element.specs.Units.{logOf, sizeAt}
 use Rattle.element.proofs.Tests.{both-yes}
-use Rattle.element.proofs.Units.{size-cases}
+use Rattle.element.proofs.Units.{log-is, size-is, size-back}
 use Rattle.encoding.specs.Instructions.{isOffset}
-use Rattle.index.specs.Index.{noUnit, unitOf}
+use Rattle.index.specs.Index.{unitOf, hasUnit, noUnit}
 use Rattle.index.specs.declared.IndexUnit.{IndexUnit}
 use Rattle.exported.specs.Index.{indexed, indexedOf}
 
@@ -23,8 +24,9 @@ module _ (vl size offset w : ℕ) where
     unfolding indexedOf
     no-offset h = rw (allowed, h)
 
-    pub the-unit : (z : ℕ) (u : IndexUnit) → isOffset size offset ≡ true → z ≡ logOf size → u ≡ unitOf vl (sizeAt z) w offset → indexed 0 u ≡ indexedOf vl size offset w
+    pub the-unit : (z : ℕ) (u : IndexUnit) → isOffset size offset ≡ true → z ≡ logOf size → u ≡ pick (hasUnit vl (sizeAt z)) (unitOf vl (sizeAt z) w offset) noUnit → indexed 0 u ≡ indexedOf vl size offset w
     unfolding indexedOf
     the-unit z u h e f =
-        let back = size-cases (λ (n : ℕ). sizeAt (logOf n) ≡ n) refl refl refl refl size (both-yes (isSize size) (ltb offset (128 / size)) h .0) in
-        rw (allowed, h) (ap (indexed 0) (f ∙ ap (λ (n : ℕ). unitOf vl n w offset) (ap sizeAt e ∙ back)))
+        let sized = both-yes (isSize size) (ltb offset _) h .0 in
+        let l = log-is size (size-is size sized) in
+        rw (allowed, h) (ap (indexed 0) (f ∙ rw (size-back (logOf size) (l .small) (l .is) e, allowed, sized)))

@@ -2,11 +2,10 @@
 use mathlib.Core.Bool.{Bool, _&&_}
 use Prim.Native.Nat.{ℕ, _+_, _-_, _/_, _%_, _^_}
 use Rattle.setting.specs.Allowed.{lengthAllowed}
-use Rattle.logic.specs.Pick.{pick}
 use Rattle.element.specs.Size.{isSize}
 use Rattle.index.specs.declared.IndexUnit.{IndexUnit}
 
--- the chosen element of Pm, sum being W + offset
+-- the number of the chosen element of Pm, sum being W + offset
 unfoldable pub indexOf : ℕ → ℕ → ℕ → ℕ
 indexOf vl size sum = sum % (vl / size)
 
@@ -18,16 +17,14 @@ adderSum w offset = (w + offset) % 2 ^ 32
 unfoldable pub indexMask : ℕ → ℕ → ℕ
 indexMask vl size = vl / size - 1
 
--- an allowed VL and one of the four sizes
+-- the three numbers of the index unit
+abbrev pub unitOf : ℕ → ℕ → ℕ → ℕ → IndexUnit
+unitOf vl size w offset = record { sum = adderSum w offset; mask = indexMask vl size; index = indexOf vl size (w + offset) }
+
+-- there is one for an allowed VL and one of the four sizes
 abbrev pub hasUnit : ℕ → ℕ → Bool
 hasUnit vl size = lengthAllowed vl && isSize size
 
--- the three numbers of the index unit, 0 where there is none
+-- where there is none
 abbrev pub noUnit : IndexUnit
 noUnit = record { sum = 0; mask = 0; index = 0 }
-
-unfoldable pub unitOf : ℕ → ℕ → ℕ → ℕ → IndexUnit
-unitOf vl size w offset =
-    pick (hasUnit vl size)
-    (record { sum = adderSum w offset; mask = indexMask vl size; index = indexOf vl size (w + offset) })
-    noUnit

@@ -3,8 +3,9 @@ ghost use mathlib.Core.Path.{_≡_};
 ghost use mathlib.Core.Bool.{true};
 ghost use Prim.Native.Nat.{_+_, _-_, _/_, _%_, _^_, _<_};
 ghost use Rattle.setting.specs.Allowed.{lengthAllowed};
+ghost use Rattle.logic.specs.Pick.{pick};
 ghost use Rattle.element.specs.Units.{sizeAt};
-ghost use Rattle.index.specs.Index.{hasUnit, unitOf};
+ghost use Rattle.index.specs.Index.{unitOf, hasUnit, noUnit};
 ghost use Rattle.index.specs.Claims.{Claims};
 
 // What the index unit has on its wires: the adder's sum, the mask, and the index.
@@ -39,7 +40,7 @@ fn has_unit(vl: u32, log: u32) -> bool
 
 // The index unit for elements of 8 · 2^log bits. All 0 for a VL or a size that there is not.
 pub fn unit(vl: u32, log: u32, w: u32, offset: u32) -> IndexUnit
-    ensures { λ r. ⌜ r ≡ unitOf vl (sizeAt log) w offset ⌝ }
+    ensures { λ r. ⌜ r ≡ pick (hasUnit vl (sizeAt log)) (unitOf vl (sizeAt log) w offset) noUnit ⌝ }
 {
     if !has_unit(vl, log) {
         return IndexUnit {

@@ -18,8 +18,8 @@ use Rattle.element.specs.Slots.{slot}
 use Rattle.element.proofs.Slots.{reach, slot-part}
 use Rattle.element.specs.Units.{sizeAt}
 use Rattle.element.proofs.Units.{unit, whole, unit-of, at-log}
-use Rattle.index.specs.Index.{indexOf, unitOf}
-use Rattle.index.proofs.Ready.{index-is}
+use Rattle.index.specs.Index.{indexOf, unitOf, hasUnit, noUnit}
+use Rattle.index.proofs.Ready.{has, index-below}
 use Rattle.psel.specs.Psel.{valueOf, pselOf}
 
 module _ (vl z : ℕ) (small : z < 4) (allowed : lengthAllowed vl ≡ true) where
@@ -33,13 +33,12 @@ module _ (vl z : ℕ) (small : z < 4) (allowed : lengthAllowed vl ≡ true) wher
 
   -- the unit's index shifted by z is the chosen element's bit
   pub chosen-bit : (w offset : ℕ)
-      → ((unitOf vl (sizeAt z) w offset .index * 2 ^ z) % 2 ^ 32 ≡ indexOf vl (sizeAt z) (w + offset) * (sizeAt z / 8))
+      → ((pick (hasUnit vl (sizeAt z)) (unitOf vl (sizeAt z) w offset) noUnit .index * 2 ^ z) % 2 ^ 32 ≡ indexOf vl (sizeAt z) (w + offset) * (sizeAt z / 8))
       × (indexOf vl (sizeAt z) (w + offset) * (sizeAt z / 8) < 8 * (vl / 64))
   chosen-bit w offset =
-      let k = index-is vl z w offset small allowed in
       let l = lengths-of vl allowed in
-      let h = inside (indexOf vl (sizeAt z) (w + offset)) (k .1) in
-      rw (unit-of (at-log z small), k .0) (mod-eq-of-lt (omega (arith, h)), h)
+      let h = inside (indexOf vl (sizeAt z) (w + offset)) (index-below vl z (w + offset) small allowed) in
+      rw (unit-of (at-log z small), has vl z small allowed) (mod-eq-of-lt (omega (arith, h)), h)
 
 -- of a slot the low bytes are the slot's own
 pub slot-low : (size n m k : ℕ) (f : List ℕ) → n ≤ m → size * k + m ≤ length f → take n (slot size m k f) ≡ slot size n k f
