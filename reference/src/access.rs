@@ -23,8 +23,8 @@ pub fn needed(form: Form, setting: Setting) -> Flags {
         t: true,
     };
     match form {
-        Form::Pext1 | Form::Pext2 if setting.has(SVE2P1) => V,
-        Form::Pext1 | Form::Pext2 => S,
+        Form::Pext if setting.has(SVE2P1) => V,
+        Form::Pext => S,
         // V also where the feature is only SME: so says document 01, and for
         // PSEL document 02, request 2, leaves it so.
         Form::Psel | Form::Narrow => V,

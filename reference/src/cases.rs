@@ -4,11 +4,12 @@
 //! Every stretch here is accepted throughout on its machine.
 
 use crate::instruction::Form;
+use crate::layout::Row;
 use crate::machine::Flags;
 use crate::random::Random;
 use crate::rearrangement::{Permission, permitted};
 use crate::roles::{
-    PREDICATE_FORMS, PREDICATES_READ, PREDICATES_WRITTEN, Role, VECTOR_FORMS, VECTORS_READ,
+    PREDICATE_ROWS, PREDICATES_READ, PREDICATES_WRITTEN, Role, VECTOR_ROWS, VECTORS_READ,
     VECTORS_WRITTEN, apart, word_of, word_with,
 };
 use crate::samples::{matching_word, narrow_word};
@@ -93,12 +94,12 @@ impl List<'_> {
     fn one_register_in_two_roles(&mut self) {
         for written in PREDICATES_WRITTEN {
             for other in PREDICATES_WRITTEN.into_iter().chain(PREDICATES_READ) {
-                if [written.form, other.form].contains(&Form::Pext2) {
-                    self.beside_a_stranger(written, other, 0, &VECTOR_FORMS);
-                    self.beside_a_stranger(written, other, 15, &VECTOR_FORMS);
+                if [written.row, other.row].contains(&Row::Pext2) {
+                    self.beside_a_stranger(written, other, 0, &VECTOR_ROWS);
+                    self.beside_a_stranger(written, other, 15, &VECTOR_ROWS);
                 } else {
                     let register = 8 + self.random.below(8);
-                    self.beside_a_stranger(written, other, register, &VECTOR_FORMS);
+                    self.beside_a_stranger(written, other, register, &VECTOR_ROWS);
                 }
             }
         }
@@ -108,7 +109,7 @@ impl List<'_> {
                 // none for two different places in one LUTI4's four.
                 let start = self.random.below(32);
                 for register in (0..32).map(|n| (start + 5 * n) % 32) {
-                    if self.beside_a_stranger(written, other, register, &PREDICATE_FORMS) {
+                    if self.beside_a_stranger(written, other, register, &PREDICATE_ROWS) {
                         break;
                     }
                 }
@@ -117,9 +118,9 @@ impl List<'_> {
     }
 
     /// Two words that conflict by the register, if it can have both roles,
-    /// and between them one of the forms that touch no such register at all.
+    /// and between them one of the rows that touch no such register at all.
     /// By the toss of a coin one or the other of the two comes first.
-    fn beside_a_stranger(&mut self, a: Role, b: Role, register: u32, strangers: &[Form]) -> bool {
+    fn beside_a_stranger(&mut self, a: Role, b: Role, register: u32, strangers: &[Row]) -> bool {
         let first = word_with(self.random, a, register);
         let last = word_with(self.random, b, register);
         let (Some(mut first), Some(mut last)) = (first, last) else {
@@ -128,8 +129,8 @@ impl List<'_> {
         if self.random.coin() {
             (first, last) = (last, first);
         }
-        let form = self.random.pick(strangers);
-        let stranger = matching_word(self.random, form);
+        let row = self.random.pick(strangers);
+        let stranger = matching_word(self.random, row);
         let kept = self.random.pick(&[[1, 0, 2], [0, 2, 1]]);
         let changed = self.random.pick(&[[2, 1, 0], [2, 0, 1], [1, 2, 0]]);
         let start = self.start();
@@ -160,13 +161,13 @@ impl List<'_> {
     /// Copies of one word are positions of their own. Exchanging them is not
     /// permitted, though it gives the same words again.
     fn copies(&mut self) {
-        for form in Form::ALL {
-            let strangers = if PREDICATE_FORMS.contains(&form) {
-                VECTOR_FORMS
+        for row in Row::ALL {
+            let strangers = if PREDICATE_ROWS.contains(&row) {
+                VECTOR_ROWS
             } else {
-                PREDICATE_FORMS
+                PREDICATE_ROWS
             };
-            let word = matching_word(self.random, form);
+            let word = matching_word(self.random, row);
             let stranger = self.random.pick(&strangers);
             let stranger = matching_word(self.random, stranger);
             let start = self.start();
@@ -265,7 +266,7 @@ impl List<'_> {
         let all: Vec<u32> = (0..4).map(|zn| self.narrowing([8, 8, zn, 30])).collect();
         // P1 is written and then read, Z1 is read and written and then written.
         let pairs = vec![0x2520_7011, 0x4528_3821, 0x252c_4020, 0xc08a_9000];
-        let any = stretch_of(self.random, &Form::ALL, 4);
+        let any = stretch_of(self.random, &Row::ALL, 4);
         for words in [free, all, pairs, any] {
             let start = self.start();
             let (kept, changed): (Vec<Vec<usize>>, Vec<Vec<usize>>) =
@@ -320,7 +321,7 @@ impl List<'_> {
     fn long_stretches(&mut self) {
         for length in [40, 100, 255, 256] {
             let start = self.start();
-            let words = stretch_of(self.random, &Form::ALL, length);
+            let words = stretch_of(self.random, &Row::ALL, length);
             self.add_any_orders(start, words);
         }
     }
@@ -362,14 +363,14 @@ impl List<'_> {
             self.extract(size, copy, first),
             self.select(size, [counter, copy, second]),
             self.select(size, [copy, mask, third]),
-            matching_word(self.random, Form::Narrow),
+            matching_word(self.random, Row::Narrow),
         ]
     }
 
-    /// PEXT1 of any portion.
+    /// PEXT of any one portion.
     fn extract(&mut self, size: u32, counter: u32, pd: u32) -> u32 {
         let portion = self.random.below(4);
-        word_of(Form::Pext1, [size, portion, counter, pd, 0, 0])
+        word_of(Form::Pext, [size, portion, 1, counter, pd, 0])
     }
 
     /// PSEL at any index, with Pn, Pm and Pd.

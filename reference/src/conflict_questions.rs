@@ -1,14 +1,15 @@
 //! The list of questions about conflicts put to both programs (kind 8).
 //!
 //! Every pair is asked in both orders. Words are made by giving a register to
-//! one of a form's roles; the rest is anything.
+//! one of a row's roles; the rest is anything.
 
 use crate::instruction::Form;
+use crate::layout::Row;
 use crate::once::Once;
 use crate::question::Question;
 use crate::random::Random;
 use crate::roles::{
-    PREDICATE_FORMS, PREDICATES_READ, PREDICATES_WRITTEN, Role, VECTOR_FORMS, VECTORS_READ,
+    PREDICATE_ROWS, PREDICATES_READ, PREDICATES_WRITTEN, Role, VECTOR_ROWS, VECTORS_READ,
     VECTORS_WRITTEN, apart, word_of, word_with,
 };
 use crate::samples;
@@ -28,7 +29,7 @@ pub fn generate(seed: u64) -> Vec<Question> {
     list.copies();
     list.family();
     list.narrowing_beside_lookups();
-    list.any_words_of_two_forms();
+    list.any_words_of_two_rows();
     list.every_feature_number();
     list.lengths_not_allowed();
     list.undefined_words();
@@ -131,8 +132,8 @@ impl List {
 
     /// Z3 beside P3: one number in every field of both words that takes it.
     fn same_number_in_two_files(&mut self) {
-        for a in PREDICATE_FORMS {
-            for b in VECTOR_FORMS {
+        for a in PREDICATE_ROWS {
+            for b in VECTOR_ROWS {
                 for register in 0..16 {
                     let setting = self.all_features();
                     let first = self.word_of_one_number(a, register);
@@ -143,29 +144,29 @@ impl List {
         }
     }
 
-    fn word_of_one_number(&mut self, form: Form, register: u32) -> u32 {
-        let mut fields = samples::fields_in_range(&mut self.random, form);
-        match form {
-            Form::Pext1 | Form::Pext2 => fields[3] = register,
-            Form::Psel => fields[3..].fill(register),
-            Form::Luti4c | Form::Luti4s => fields[2] = register,
-            Form::Narrow => fields[3..5].fill(register),
+    fn word_of_one_number(&mut self, row: Row, register: u32) -> u32 {
+        let mut fields = samples::fields_in_range(&mut self.random, row);
+        match row {
+            Row::Pext1 | Row::Pext2 => fields[4] = register,
+            Row::Psel => fields[3..].fill(register),
+            Row::Luti4c | Row::Luti4s => fields[2] = register,
+            Row::Narrow => fields[3..5].fill(register),
         }
-        match form {
-            Form::Pext1 | Form::Pext2 if register >= 8 => fields[2] = register,
-            Form::Luti4c => fields[3] = register / 4 * 4,
-            Form::Luti4s => fields[3] = register % 4,
-            Form::Pext1 | Form::Pext2 | Form::Psel | Form::Narrow => {}
+        match row {
+            Row::Pext1 | Row::Pext2 if register >= 8 => fields[3] = register,
+            Row::Luti4c => fields[3] = register / 4 * 4,
+            Row::Luti4s => fields[3] = register % 4,
+            Row::Pext1 | Row::Pext2 | Row::Psel | Row::Narrow => {}
         }
-        word_of(form, fields)
+        word_of(row.form(), fields)
     }
 
     /// A word beside itself, also where it cannot be read.
     fn copies(&mut self) {
-        for form in Form::ALL {
+        for row in Row::ALL {
             for _ in 0..10 {
                 let setting = self.all_features();
-                let word = samples::matching_word(&mut self.random, form);
+                let word = samples::matching_word(&mut self.random, row);
                 self.add(setting, word, word);
             }
         }
@@ -200,15 +201,15 @@ impl List {
     /// read by one, and nothing in common.
     fn narrowing_beside_lookups(&mut self) {
         for bits in 0..16 {
-            for form in [Form::Luti4c, Form::Luti4s] {
+            for row in [Row::Luti4c, Row::Luti4s] {
                 // Among the lookup's four: Z8 to Z11, or Z1, Z5, Z9 and Z13.
-                let (first, step) = if form == Form::Luti4c { (8, 1) } else { (1, 4) };
+                let (first, step) = if row == Row::Luti4c { (8, 1) } else { (1, 4) };
                 let among = first + step * self.random.below(4);
                 for [zn, zd] in [[20, among], [20, 24], [among, 20], [24, 20], [20, 21]] {
                     let setting = self.all_features();
-                    let mut fields = samples::fields_in_range(&mut self.random, form);
+                    let mut fields = samples::fields_in_range(&mut self.random, row);
                     fields[2..4].copy_from_slice(&[24, first]);
-                    let lookup = word_of(form, fields);
+                    let lookup = word_of(row.form(), fields);
                     let narrow = self.narrowing(bits, [zn, zd]);
                     self.add(setting, narrow, lookup);
                 }
@@ -224,15 +225,15 @@ impl List {
 
     /// Any size and shift, from and to these registers.
     fn narrowing(&mut self, bits: u32, registers: [u32; 2]) -> u32 {
-        let mut fields = samples::fields_in_range(&mut self.random, Form::Narrow);
+        let mut fields = samples::fields_in_range(&mut self.random, Row::Narrow);
         fields[0] = bits;
         fields[3..5].copy_from_slice(&registers);
         word_of(Form::Narrow, fields)
     }
 
-    fn any_words_of_two_forms(&mut self) {
-        for (place, a) in Form::ALL.into_iter().enumerate() {
-            for b in Form::ALL.into_iter().skip(place) {
+    fn any_words_of_two_rows(&mut self) {
+        for (place, a) in Row::ALL.into_iter().enumerate() {
+            for b in Row::ALL.into_iter().skip(place) {
                 for _ in 0..11 {
                     let setting = self.all_features();
                     let first = samples::matching_word(&mut self.random, a);
@@ -243,25 +244,25 @@ impl List {
         }
     }
 
-    /// Two forms under every feature number, so that each of the two words can
+    /// Two rows under every feature number, so that each of the two words can
     /// be the one that is not read.
     fn every_feature_number(&mut self) {
         let any = (0..=ALL_FEATURES).chain(FEATURES_ABOVE);
         let allowed = (0..=ALL_FEATURES).filter(|&n| features_are_allowed(n));
         for features in any {
-            let a = self.random.pick(&Form::ALL);
-            let b = self.random.pick(&Form::ALL);
-            self.ask_forms(features, a, b);
+            let a = self.random.pick(&Row::ALL);
+            let b = self.random.pick(&Row::ALL);
+            self.ask_rows(features, a, b);
         }
         for features in allowed {
-            for (place, a) in Form::ALL.into_iter().enumerate() {
-                let b = self.random.pick(&Form::ALL[place..]);
-                self.ask_forms(features, a, b);
+            for (place, a) in Row::ALL.into_iter().enumerate() {
+                let b = self.random.pick(&Row::ALL[place..]);
+                self.ask_rows(features, a, b);
             }
         }
     }
 
-    fn ask_forms(&mut self, features: u32, a: Form, b: Form) {
+    fn ask_rows(&mut self, features: u32, a: Row, b: Row) {
         let setting = self.any_length(features);
         let first = samples::matching_word(&mut self.random, a);
         let second = samples::matching_word(&mut self.random, b);
@@ -272,8 +273,8 @@ impl List {
     fn lengths_not_allowed(&mut self) {
         for vl in LENGTHS_NOT_ALLOWED {
             let features = ALL_FEATURES;
-            let form = self.random.pick(&Form::ALL);
-            let first = samples::matching_word(&mut self.random, form);
+            let row = self.random.pick(&Row::ALL);
+            let first = samples::matching_word(&mut self.random, row);
             let second = samples::near_miss(&mut self.random);
             self.add(Setting { vl, features }, first, second);
             self.add(Setting { vl, features }, first, first);
@@ -281,10 +282,10 @@ impl List {
     }
 
     fn undefined_words(&mut self) {
-        for form in Form::ALL {
+        for row in Row::ALL {
             for _ in 0..8 {
                 let setting = self.all_features();
-                let word = samples::matching_word(&mut self.random, form);
+                let word = samples::matching_word(&mut self.random, row);
                 let miss = samples::near_miss(&mut self.random);
                 self.add(setting, word, miss);
             }
@@ -297,15 +298,15 @@ impl List {
         }
     }
 
-    /// PSEL beside every form under the feature numbers it hangs on; and with
+    /// PSEL beside every row under the feature numbers it hangs on; and with
     /// SVE2p1 alone in each of its roles beside every role that it can meet.
     fn psel(&mut self) {
         for features in FEATURES_FOR_PSEL {
-            for form in Form::ALL {
-                self.ask_forms(features, Form::Psel, form);
+            for row in Row::ALL {
+                self.ask_rows(features, Row::Psel, row);
             }
         }
-        let has_psel = |a: Role, b: Role| [a.form, b.form].contains(&Form::Psel);
+        let has_psel = |a: Role, b: Role| [a.row, b.row].contains(&Row::Psel);
         for written in PREDICATES_WRITTEN {
             for other in PREDICATES_WRITTEN.into_iter().chain(PREDICATES_READ) {
                 if has_psel(written, other) {

@@ -1,7 +1,7 @@
 //! From a word to an instruction.
 
-use crate::instruction::{Form, Instruction};
-use crate::layout;
+use crate::instruction::Instruction;
+use crate::layout::{self, Row};
 use crate::refusal::Refusal;
 use crate::setting::Setting;
 
@@ -10,32 +10,24 @@ pub fn decode(setting: Setting, word: u32) -> Result<Instruction, Refusal> {
     if !setting.is_allowed() {
         return Err(Refusal::Setting);
     }
-    let Some(form) = layout::form_by_fixed_bits(word) else {
+    let Some(row) = layout::row_by_fixed_bits(word) else {
         return Err(Refusal::Undefined);
     };
     // A failed condition ends it: no second, looser match is tried.
-    if !layout::has_features(form, setting) || !layout::has_field_condition(form, word) {
+    if !layout::has_features(row, setting) || !layout::has_field_condition(row, word) {
         return Err(Refusal::Undefined);
     }
-    Ok(read_fields(form, word))
+    Ok(read_fields(row, word))
 }
 
-/// The fields of a word that matches the form with its field condition.
-fn read_fields(form: Form, word: u32) -> Instruction {
-    match form {
-        Form::Pext1 => Instruction::Pext1 {
-            size: 8 << bits(word, 22, 2),
-            portion: bits(word, 8, 2),
-            counter: 8 + bits(word, 5, 3),
-            pd: bits(word, 0, 4),
-        },
-        Form::Pext2 => Instruction::Pext2 {
-            size: 8 << bits(word, 22, 2),
-            i1: bits(word, 8, 1),
-            counter: 8 + bits(word, 5, 3),
-            pd: bits(word, 0, 4),
-        },
-        Form::Psel => {
+/// The fields of a word that matches the row with its field condition.
+fn read_fields(row: Row, word: u32) -> Instruction {
+    match row {
+        // imm2 is the portion
+        Row::Pext1 => read_pext(word, bits(word, 8, 2), 1),
+        // i1 is half the first portion
+        Row::Pext2 => read_pext(word, 2 * bits(word, 8, 1), 2),
+        Row::Psel => {
             let i1 = bits(word, 23, 1);
             let tszh = bits(word, 22, 1);
             let tszl = bits(word, 18, 3);
@@ -49,19 +41,19 @@ fn read_fields(form: Form, word: u32) -> Instruction {
                 pd: bits(word, 0, 4),
             }
         }
-        Form::Luti4c => Instruction::Luti4c {
+        Row::Luti4c => Instruction::Luti4c {
             size: 8 << bits(word, 12, 2),
             i1: bits(word, 16, 1),
             zn: bits(word, 5, 5),
             zd: 4 * bits(word, 2, 3),
         },
-        Form::Luti4s => Instruction::Luti4s {
+        Row::Luti4s => Instruction::Luti4s {
             size: 8 << bits(word, 12, 2),
             i1: bits(word, 16, 1),
             zn: bits(word, 5, 5),
             zd: 16 * bits(word, 4, 1) + bits(word, 0, 2),
         },
-        Form::Narrow => {
+        Row::Narrow => {
             let tsz = (bits(word, 22, 1) << 2) | bits(word, 19, 2);
             let imm3 = bits(word, 16, 3);
             let size = narrow_size(tsz);
@@ -73,6 +65,17 @@ fn read_fields(form: Form, word: u32) -> Instruction {
                 zd: bits(word, 0, 5),
             }
         }
+    }
+}
+
+/// What both of PEXT's layouts have in the same places, and their portions.
+fn read_pext(word: u32, first: u32, portions: u32) -> Instruction {
+    Instruction::Pext {
+        size: 8 << bits(word, 22, 2),
+        first,
+        portions,
+        counter: 8 + bits(word, 5, 3),
+        pd: bits(word, 0, 4),
     }
 }
 

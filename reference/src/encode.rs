@@ -14,27 +14,29 @@ pub fn encode(setting: Setting, instruction: Instruction) -> Result<u32, Refusal
         return Err(Refusal::Range);
     }
     // The ranges already imply the field condition: only a feature can miss.
-    if !layout::has_features(instruction.form(), setting) {
+    let row = instruction.row();
+    if !layout::has_features(row, setting) {
         return Err(Refusal::Undefined);
     }
-    Ok(layout_of(instruction.form()).value | field_bits(instruction))
+    Ok(layout_of(row).value | field_bits(instruction))
 }
 
-/// Whether every field is in document 01's range for writing.
+/// Whether every field is in document 01's range for writing, and PEXT's
+/// portions in that of document 02, request 8.
 pub fn in_range(instruction: Instruction) -> bool {
     match instruction {
-        Instruction::Pext1 {
+        Instruction::Pext {
             size,
-            portion,
+            first,
+            portions,
             counter,
             pd,
-        } => size_index(size).is_some() && portion <= 3 && is_counter(counter) && is_predicate(pd),
-        Instruction::Pext2 {
-            size,
-            i1,
-            counter,
-            pd,
-        } => size_index(size).is_some() && i1 <= 1 && is_counter(counter) && is_predicate(pd),
+        } => {
+            size_index(size).is_some()
+                && portions_in_range(first, portions)
+                && is_counter(counter)
+                && is_predicate(pd)
+        }
         Instruction::Psel {
             size,
             offset,
@@ -76,6 +78,12 @@ pub fn in_range(instruction: Instruction) -> bool {
     }
 }
 
+/// Whether PEXT has this number of portions, and this first one with it.
+pub fn portions_in_range(first: u32, portions: u32) -> bool {
+    let odd_pair = portions == 2 && first % 2 == 1;
+    (portions == 1 || portions == 2) && first <= 3 && !odd_pair
+}
+
 /// Whether PSEL has this element size, and this offset at it.
 pub fn psel_offset_in_range(size: u32, offset: u32) -> bool {
     // The size is tested first: 0 must divide nothing.
@@ -85,18 +93,17 @@ pub fn psel_offset_in_range(size: u32, offset: u32) -> bool {
 /// The bits of the fields in their places, for fields that are in range.
 fn field_bits(instruction: Instruction) -> u32 {
     match instruction {
-        Instruction::Pext1 {
+        Instruction::Pext {
             size,
-            portion,
+            first,
+            portions,
             counter,
             pd,
-        } => size_bits(size) << 22 | portion << 8 | (counter - 8) << 5 | pd,
-        Instruction::Pext2 {
-            size,
-            i1,
-            counter,
-            pd,
-        } => size_bits(size) << 22 | i1 << 8 | (counter - 8) << 5 | pd,
+        } => {
+            // i1 is half the first portion, imm2 the one portion itself.
+            let number = if portions == 2 { first / 2 } else { first };
+            size_bits(size) << 22 | number << 8 | (counter - 8) << 5 | pd
+        }
         Instruction::Psel {
             size,
             offset,
@@ -193,6 +200,50 @@ mod tests {
         assert_eq!(encode(sve2_alone, bad), Err(Refusal::Range));
         assert_eq!(encode(wrong, good), Err(Refusal::Setting));
         assert_eq!(encode(wrong, bad), Err(Refusal::Setting));
+    }
+
+    /// Document 02, request 8: each new refusal by itself, and in the order.
+    #[test]
+    fn portions_of_pext() {
+        let pext =
+            |first, portions| Instruction::from_fields(Form::Pext, [8, first, portions, 8, 0, 0]);
+        let sve2_alone = Setting {
+            vl: 128,
+            features: 1,
+        };
+        let wrong = Setting {
+            vl: 64,
+            features: 31,
+        };
+        for (first, portions, word) in [
+            (0, 1, 0x2520_7010),
+            (3, 1, 0x2520_7310),
+            (0, 2, 0x2520_7410),
+            (2, 2, 0x2520_7510),
+        ] {
+            let good = pext(first, portions);
+            assert_eq!(encode(FULL, good), Ok(word));
+            assert_eq!(encode(sve2_alone, good), Err(Refusal::Undefined));
+            assert_eq!(encode(wrong, good), Err(Refusal::Setting));
+        }
+        for (first, portions) in [
+            (0, 0),
+            (0, 3),
+            (0, 257),
+            (2, u32::MAX),
+            (4, 1),
+            (4, 2),
+            (1 << 31, 1),
+            (u32::MAX - 1, 2),
+            (1, 2),
+            (3, 2),
+        ] {
+            let bad = pext(first, portions);
+            for setting in [FULL, sve2_alone] {
+                assert_eq!(encode(setting, bad), Err(Refusal::Range), "{bad:?}");
+            }
+            assert_eq!(encode(wrong, bad), Err(Refusal::Setting));
+        }
     }
 
     #[test]

@@ -1,14 +1,19 @@
-//! The six forms and their fields.
+//! The five forms and their fields.
 //!
-//! Fields are as document 01 reads them, PSEL's as document 02, request 2,
-//! names them: element sizes in bits and register numbers, never raw bits. An
-//! `Instruction` may hold any `u32` in any field; only `encode` asks whether
-//! they are in range.
+//! Fields are as document 01 reads them, those of PSEL and PEXT as document
+//! 02, requests 2 and 8, has them: element sizes in bits and register numbers,
+//! never raw bits. An `Instruction` may hold any `u32` in any field; only
+//! `encode` asks whether they are in range.
+
+use crate::layout::Row;
+
+/// Numbers of forms, as a list of numbers starts with them, that are not used
+/// any more: PEXT1 and PEXT2 apart (request 8), and UQRSHRNB alone (request 1).
+pub const RETIRED_FORMS: [u32; 3] = [0, 1, 5];
 
 #[derive(Clone, Copy, Debug, PartialEq, Eq, Hash)]
 pub enum Form {
-    Pext1,
-    Pext2,
+    Pext,
     Psel,
     Luti4c,
     Luti4s,
@@ -18,21 +23,19 @@ pub enum Form {
 
 impl Form {
     /// In the order of document 01's table.
-    pub const ALL: [Form; 6] = [
-        Form::Pext1,
-        Form::Pext2,
+    pub const ALL: [Form; 5] = [
+        Form::Pext,
         Form::Psel,
         Form::Luti4c,
         Form::Luti4s,
         Form::Narrow,
     ];
 
-    /// 1 to 5 in the order of the table and 7 for the family: 6 was UQRSHRNB
-    /// alone and is not used again.
+    /// One more than the number that a list starts with. The numbers of
+    /// `RETIRED_FORMS` are not used again.
     pub fn number(self) -> u32 {
         match self {
-            Form::Pext1 => 1,
-            Form::Pext2 => 2,
+            Form::Pext => 8,
             Form::Psel => 3,
             Form::Luti4c => 4,
             Form::Luti4s => 5,
@@ -47,8 +50,7 @@ impl Form {
     /// The form's own name; that of a word is `Instruction::name`.
     pub fn name(self) -> &'static str {
         match self {
-            Form::Pext1 => "PEXT1",
-            Form::Pext2 => "PEXT2",
+            Form::Pext => "PEXT",
             Form::Psel => "PSEL",
             Form::Luti4c => "LUTI4C",
             Form::Luti4s => "LUTI4S",
@@ -58,8 +60,8 @@ impl Form {
 
     pub fn field_count(self) -> usize {
         match self {
-            Form::Pext1 | Form::Pext2 | Form::Luti4c | Form::Luti4s => 4,
-            Form::Narrow => 5,
+            Form::Luti4c | Form::Luti4s => 4,
+            Form::Pext | Form::Narrow => 5,
             Form::Psel => 6,
         }
     }
@@ -87,19 +89,17 @@ pub const NARROW_NAMES: [&str; 16] = [
 
 #[derive(Clone, Copy, Debug, PartialEq, Eq, Hash)]
 pub enum Instruction {
-    Pext1 {
+    /// Document 02, request 8. Document 01 has two forms of it: PEXT1 is one
+    /// portion, imm2, and PEXT2 two portions, the first being 2·i1.
+    Pext {
         size: u32,
-        /// imm2
-        portion: u32,
+        /// the first portion
+        first: u32,
+        /// how many portions, 1 or 2
+        portions: u32,
         /// the counter register, 8 to 15
         counter: u32,
-        pd: u32,
-    },
-    Pext2 {
-        size: u32,
-        i1: u32,
-        /// the counter register, 8 to 15
-        counter: u32,
+        /// the first destination
         pd: u32,
     },
     /// Document 02, request 2. Document 01 calls the word DUP and its fields
@@ -143,8 +143,7 @@ pub enum Instruction {
 impl Instruction {
     pub fn form(self) -> Form {
         match self {
-            Instruction::Pext1 { .. } => Form::Pext1,
-            Instruction::Pext2 { .. } => Form::Pext2,
+            Instruction::Pext { .. } => Form::Pext,
             Instruction::Psel { .. } => Form::Psel,
             Instruction::Luti4c { .. } => Form::Luti4c,
             Instruction::Luti4s { .. } => Form::Luti4s,
@@ -152,10 +151,25 @@ impl Instruction {
         }
     }
 
-    /// The name the lister gives to its word. Four bits too great, which no
-    /// word has, give the family's name.
+    /// The row of its word, for fields that are in range.
+    pub fn row(self) -> Row {
+        match self {
+            Instruction::Pext { portions: 2, .. } => Row::Pext2,
+            Instruction::Pext { .. } => Row::Pext1,
+            Instruction::Psel { .. } => Row::Psel,
+            Instruction::Luti4c { .. } => Row::Luti4c,
+            Instruction::Luti4s { .. } => Row::Luti4s,
+            Instruction::Narrow { .. } => Row::Narrow,
+        }
+    }
+
+    /// The name the lister gives to its word. A number of portions, or four
+    /// bits, that no word has give the form's name.
     pub fn name(&self) -> &'static str {
         match *self {
+            Instruction::Pext {
+                portions: 1 | 2, ..
+            } => self.row().name(),
             Instruction::Narrow { bits, .. } => NARROW_NAMES
                 .get(bits as usize)
                 .copied()
@@ -167,18 +181,13 @@ impl Instruction {
     /// The fields in their order, unused places 0.
     pub fn fields(self) -> [u32; 6] {
         match self {
-            Instruction::Pext1 {
+            Instruction::Pext {
                 size,
-                portion,
+                first,
+                portions,
                 counter,
                 pd,
-            } => [size, portion, counter, pd, 0, 0],
-            Instruction::Pext2 {
-                size,
-                i1,
-                counter,
-                pd,
-            } => [size, i1, counter, pd, 0, 0],
+            } => [size, first, portions, counter, pd, 0],
             Instruction::Psel {
                 size,
                 offset,
@@ -203,17 +212,12 @@ impl Instruction {
     pub fn from_fields(form: Form, fields: [u32; 6]) -> Instruction {
         let [a, b, c, d, e, f] = fields;
         match form {
-            Form::Pext1 => Instruction::Pext1 {
+            Form::Pext => Instruction::Pext {
                 size: a,
-                portion: b,
-                counter: c,
-                pd: d,
-            },
-            Form::Pext2 => Instruction::Pext2 {
-                size: a,
-                i1: b,
-                counter: c,
-                pd: d,
+                first: b,
+                portions: c,
+                counter: d,
+                pd: e,
             },
             Form::Psel => Instruction::Psel {
                 size: a,
@@ -251,13 +255,31 @@ mod tests {
     use super::*;
 
     #[test]
-    fn forms_are_numbered_without_six() {
+    fn retired_numbers_are_not_used() {
         let numbers: Vec<u32> = Form::ALL.iter().map(|form| form.number()).collect();
-        assert_eq!(numbers, [1, 2, 3, 4, 5, 7]);
-        assert_eq!(Form::from_number(0), None);
-        assert_eq!(Form::from_number(6), None);
-        assert_eq!(Form::from_number(8), None);
-        assert_eq!(Form::from_number(257), None);
+        assert_eq!(numbers, [8, 3, 4, 5, 7]);
+        for retired in RETIRED_FORMS {
+            assert_eq!(Form::from_number(retired + 1), None);
+        }
+        for number in [0, 9, 256 + 8, u32::MAX] {
+            assert_eq!(Form::from_number(number), None);
+        }
+    }
+
+    /// Request 8: the lister's names stay, by the number of portions.
+    #[test]
+    fn names_of_pext() {
+        for (portions, name) in [
+            (0, "PEXT"),
+            (1, "PEXT1"),
+            (2, "PEXT2"),
+            (3, "PEXT"),
+            (257, "PEXT"),
+            (u32::MAX, "PEXT"),
+        ] {
+            let pext = Instruction::from_fields(Form::Pext, [8, 0, portions, 8, 0, 0]);
+            assert_eq!(pext.name(), name);
+        }
     }
 
     #[test]

@@ -1,8 +1,9 @@
 //! # Reference program
 //!
 //! An independent second program for the words of document 01 (`01-scope.md`),
-//! with requests 1 to 3 and 5 of document 02 (`02-change-requests.md`): the
-//! whole narrowing family, PSEL, no answer is 7, and PSEL's index unit.
+//! with requests 1 to 3, 5 and 8 of document 02 (`02-change-requests.md`): the
+//! whole narrowing family, PSEL, no answer is 7, PSEL's index unit, and one
+//! PEXT.
 //! It was written from the documents alone (01, 02, the source documents 000
 //! to 004 and the list of readings of doubtful points), by a hand that had not
 //! seen the proved library, so that the two can be compared. Nothing here is
@@ -12,9 +13,10 @@
 //!
 //! - [`setting`]: which vector lengths and feature numbers are allowed
 //! - [`refusal`]: the numbers the bench answers with
-//! - [`instruction`]: the six forms, the last of them a family, and their
+//! - [`instruction`]: the five forms, the last of them a family, and their
 //!   fields as document 01 reads them
-//! - [`layout`]: one mask and value for each form, and the conditions
+//! - [`layout`]: the six rows of document 01's table, with one mask and value
+//!   for each, and the conditions
 //! - [`decode`], [`encode`]: word to instruction and back
 //! - [`lister`]: four bytes in, one line of text out
 //!
@@ -52,7 +54,7 @@
 //!
 //! ```text
 //! reference list                        words on stdin, lines on stdout
-//! reference questions [SEED]            prints questions of kinds 0 to 6 and 11
+//! reference questions [SEED]            prints questions of kinds 0 to 6, 11, 12
 //! reference step-questions [SEED]       prints questions of kind 7
 //! reference conflict-questions [SEED]   prints questions of kind 8
 //! reference run-questions [SEED]        prints questions of kind 9

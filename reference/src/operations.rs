@@ -1,18 +1,27 @@
 //! What the words compute, on rows of bits; nothing here knows the machine.
 //!
 //! Each function is its paragraph of document 01 in loops, PSEL's that of
-//! document 02, request 2; the narrowing family has a page of its own,
-//! `narrow`. Sizes, portions and shifts are those of a decoded instruction and
-//! so are in range.
+//! document 02, request 2, and PEXT's with request 8; the narrowing family has
+//! a page of its own, `narrow`. Sizes, portions and shifts are those of a
+//! decoded instruction and so are in range.
 
 use crate::bits::{element, set_element};
 use crate::counter::Counter;
 use crate::index_unit::element_index;
 
-/// One portion of a counter's mask: elements portion·E to portion·E + E − 1
-/// of the instruction's own size, E being VL/size.
-pub fn pext(counter: Counter, size: u32, portion: u32, vl: u32) -> Vec<bool> {
+/// So many portions of a counter's mask, from the first on.
+pub fn pext(counter: Counter, size: u32, first: u32, portions: u32, vl: u32) -> Vec<Vec<bool>> {
     let mask = counter.expand(vl);
+    let mut results = Vec::new();
+    for k in 0..portions {
+        results.push(portion_of(&mask, size, first + k, vl));
+    }
+    results
+}
+
+/// One portion: elements portion·E to portion·E + E − 1 of the instruction's
+/// own size, E being VL/size.
+fn portion_of(mask: &[bool], size: u32, portion: u32, vl: u32) -> Vec<bool> {
     let elements = vl / size;
     let mut result = vec![false; vl as usize / 8];
     for e in 0..elements {

@@ -5,8 +5,7 @@
 //! words that cannot be read and settings that are not allowed.
 
 use crate::cases;
-use crate::instruction::Form;
-use crate::layout::has_features;
+use crate::layout::{Row, has_features};
 use crate::once::Once;
 use crate::permission_question::PermissionQuestion;
 use crate::random::Random;
@@ -71,7 +70,7 @@ impl List {
 
     /// Words that are defined under all features.
     fn words(&mut self, length: usize) -> Vec<u32> {
-        stretch_of(&mut self.random, &Form::ALL, length)
+        stretch_of(&mut self.random, &Row::ALL, length)
     }
 
     /// No words and no order at all lengths, and no words with an order.
@@ -182,19 +181,19 @@ impl List {
         }
     }
 
-    /// Every form among others that are defined where it is not, under every
+    /// Every row among others that are defined where it is not, under every
     /// feature number.
     fn missing_features(&mut self) {
         for features in (0..=ALL_FEATURES).filter(|&n| features_are_allowed(n)) {
             let setting = self.any_length(features);
             self.add(setting, &[], Vec::new());
-            let (defined, missing): (Vec<Form>, Vec<Form>) = Form::ALL
+            let (defined, missing): (Vec<Row>, Vec<Row>) = Row::ALL
                 .into_iter()
-                .partition(|&form| has_features(form, setting));
-            for form in missing {
+                .partition(|&row| has_features(row, setting));
+            for row in missing {
                 let mut words = stretch_of(&mut self.random, &defined, 3);
                 let place = self.random.below(words.len() as u32 + 1) as usize;
-                words.insert(place, matching_word(&mut self.random, form));
+                words.insert(place, matching_word(&mut self.random, row));
                 let order = in_order(words.len());
                 self.add(setting, &words, order);
             }

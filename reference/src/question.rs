@@ -20,9 +20,11 @@ pub enum Question {
         /// In the form's order, unused places 0.
         fields: [u32; 6],
     },
-    /// Encode of the form that was UQRSHRNB alone, whatever its list holds.
+    /// Encode of a form that is not used any more, whatever its list holds.
     EncodeRetired {
         setting: Setting,
+        /// One of `RETIRED_FORMS`.
+        form: u32,
         fields: [u32; 6],
     },
     /// Whether two words conflict.
@@ -81,7 +83,7 @@ impl Question {
     }
 }
 
-/// How writing a word of the retired form is refused: no list of it is in
+/// How writing a word of a retired form is refused: no list of it is in
 /// range any more, and that is asked after the setting.
 fn retired(setting: Setting) -> Refusal {
     if setting.is_allowed() {

@@ -1,14 +1,17 @@
 //! The list of questions about reading and writing words put to both programs
-//! (kinds 0 to 6 and 11).
+//! (kinds 0 to 6, 11 and 12).
 //!
 //! What must be asked is asked by construction, one function for each kind of
 //! case; the seed only fills in what may be anything. A question that comes up
 //! twice is kept once.
 
 mod family;
+mod pext;
 mod psel;
+mod retired;
 
 use crate::instruction::Form;
+use crate::layout::Row;
 use crate::once::Once;
 use crate::question::Question;
 use crate::random::Random;
@@ -40,6 +43,7 @@ pub fn generate(seed: u64) -> Vec<Question> {
     list.family();
     list.retired();
     list.psel();
+    list.pext();
     list.questions.into_list()
 }
 
@@ -79,11 +83,11 @@ impl List {
 
     /// Fields with one outside its range: by the toss of a coin next to it, or
     /// far off.
-    fn fields_out_of_range(&mut self, form: Form) -> [u32; 6] {
-        let mut fields = samples::fields_in_range(&mut self.random, form);
-        let place = self.random.below(form.field_count() as u32) as usize;
+    fn fields_out_of_range(&mut self, row: Row) -> [u32; 6] {
+        let mut fields = samples::fields_in_range(&mut self.random, row);
+        let place = self.random.below(row.form().field_count() as u32) as usize;
         fields[place] = if self.random.coin() {
-            self.random.pick(samples::values_outside(form, place))
+            self.random.pick(samples::values_outside(row.form(), place))
         } else {
             // 66 and above is in no range, whatever the field.
             66 + self.random.below(u32::MAX - 66)
@@ -107,80 +111,80 @@ impl List {
         }
     }
 
-    /// Every form under every feature number and some above, at an allowed
+    /// Every row under every feature number and some above, at an allowed
     /// length: words that match and that do not, fields in range and out.
     fn every_feature_number(&mut self) {
         for features in (0..=ALL_FEATURES).chain(FEATURES_ABOVE) {
-            for form in Form::ALL {
+            for row in Row::ALL {
                 let vl = self.any_length();
                 let setting = Setting { vl, features };
-                self.ask_all_four(setting, form);
+                self.ask_all_four(setting, row);
             }
         }
     }
 
-    /// Every form at every length, allowed or not, under all features.
+    /// Every row at every length, allowed or not, under all features.
     fn every_vector_length(&mut self) {
         for vl in VECTOR_LENGTHS.into_iter().chain(LENGTHS_NOT_ALLOWED) {
-            for form in Form::ALL {
+            for row in Row::ALL {
                 let features = ALL_FEATURES;
-                self.ask_all_four(Setting { vl, features }, form);
+                self.ask_all_four(Setting { vl, features }, row);
             }
         }
     }
 
     fn both_numbers_not_allowed(&mut self) {
-        for form in Form::ALL {
+        for row in Row::ALL {
             let vl = self.random.pick(&LENGTHS_NOT_ALLOWED);
             let features = self.random.pick(&FEATURES_ABOVE);
-            self.ask_all_four(Setting { vl, features }, form);
+            self.ask_all_four(Setting { vl, features }, row);
         }
     }
 
-    fn ask_all_four(&mut self, setting: Setting, form: Form) {
-        let word = samples::matching_word(&mut self.random, form);
+    fn ask_all_four(&mut self, setting: Setting, row: Row) {
+        let word = samples::matching_word(&mut self.random, row);
         self.decode(setting, word);
         let word = samples::near_miss(&mut self.random);
         self.decode(setting, word);
-        let fields = samples::fields_in_range(&mut self.random, form);
-        self.encode(setting, form, fields);
-        let fields = self.fields_out_of_range(form);
-        self.encode(setting, form, fields);
+        let fields = samples::fields_in_range(&mut self.random, row);
+        self.encode(setting, row.form(), fields);
+        let fields = self.fields_out_of_range(row);
+        self.encode(setting, row.form(), fields);
     }
 
     /// Each field of a word through all its values, the others anything.
     fn every_value_of_every_word_field(&mut self) {
-        for form in Form::ALL {
-            for &mask in samples::field_masks(form) {
+        for row in Row::ALL {
+            for &mask in samples::field_masks(row) {
                 for value in 0..1 << mask.count_ones() {
                     let setting = self.all_features();
-                    let word = samples::matching_word(&mut self.random, form);
+                    let word = samples::matching_word(&mut self.random, row);
                     self.decode(setting, (word & !mask) | samples::spread(value, mask));
                 }
             }
         }
     }
 
-    /// Words with a form's fixed bits that fail its field condition.
+    /// Words with a row's fixed bits that fail its field condition.
     fn failing_conditions(&mut self) {
-        for form in Form::ALL {
-            let (mask, values) = samples::failing_conditions(form);
+        for row in Row::ALL {
+            let (mask, values) = samples::failing_conditions(row);
             for &value in values {
                 for _ in 0..8 {
                     let setting = self.all_features();
-                    let word = samples::matching_word(&mut self.random, form);
+                    let word = samples::matching_word(&mut self.random, row);
                     self.decode(setting, (word & !mask) | value);
                 }
             }
         }
     }
 
-    /// Every single bit of two words for each form.
+    /// Every single bit of two words for each row.
     fn one_bit_away(&mut self) {
-        for form in Form::ALL {
+        for row in Row::ALL {
             for _ in 0..2 {
                 let setting = self.all_features();
-                let word = samples::matching_word(&mut self.random, form);
+                let word = samples::matching_word(&mut self.random, row);
                 self.decode(setting, word);
                 for bit in 0..32 {
                     self.decode(setting, word ^ (1 << bit));
@@ -190,10 +194,10 @@ impl List {
     }
 
     fn two_bits_away(&mut self) {
-        for form in Form::ALL {
+        for row in Row::ALL {
             for _ in 0..90 {
                 let setting = self.all_features();
-                let word = samples::flipped_word(&mut self.random, form, 2);
+                let word = samples::flipped_word(&mut self.random, row, 2);
                 self.decode(setting, word);
             }
         }
@@ -210,40 +214,40 @@ impl List {
     /// Every field in turn given every one of `FIELD_VALUES`, the others in
     /// range. Where a range hangs on the size, this is done for each size.
     fn values_in_every_field(&mut self) {
-        for form in Form::ALL {
-            for place in 0..form.field_count() {
-                let by_size: &[u32] = match (form, place) {
-                    (Form::Psel, 1) => &[8, 16, 32, 64],
-                    (Form::Narrow, 2) => &[8, 16, 32],
+        for row in Row::ALL {
+            for place in 0..row.form().field_count() {
+                let by_size: &[u32] = match (row, place) {
+                    (Row::Psel, 1) => &[8, 16, 32, 64],
+                    (Row::Narrow, 2) => &[8, 16, 32],
                     _ => &[],
                 };
                 if by_size.is_empty() {
-                    self.values_in_field(form, place, None);
+                    self.values_in_field(row, place, None);
                 }
                 for &size in by_size {
-                    self.values_in_field(form, place, Some(size));
+                    self.values_in_field(row, place, Some(size));
                 }
             }
         }
     }
 
-    fn values_in_field(&mut self, form: Form, place: usize, size: Option<u32>) {
+    fn values_in_field(&mut self, row: Row, place: usize, size: Option<u32>) {
         for value in FIELD_VALUES {
             let setting = self.all_features();
-            let mut fields = samples::fields_in_range(&mut self.random, form);
+            let mut fields = samples::fields_in_range(&mut self.random, row);
             if let Some(size) = size {
                 // It stands just before the field whose range hangs on it.
                 fields[place - 1] = size;
             }
             // The field after the size must be in range whatever the size is,
             // so that only the size decides.
-            match (form, place) {
-                (Form::Psel, 0) => fields[1] = self.random.below(2),
-                (Form::Narrow, 1) => fields[2] = 1 + self.random.below(8),
+            match (row, place) {
+                (Row::Psel, 0) => fields[1] = self.random.below(2),
+                (Row::Narrow, 1) => fields[2] = 1 + self.random.below(8),
                 _ => {}
             }
             fields[place] = value;
-            self.encode(setting, form, fields);
+            self.encode(setting, row.form(), fields);
         }
     }
 
@@ -253,7 +257,7 @@ impl List {
         for size in [8, 16, 32, 64] {
             for offset in 0..=128 / size {
                 let setting = self.all_features();
-                let mut fields = samples::fields_in_range(&mut self.random, Form::Psel);
+                let mut fields = samples::fields_in_range(&mut self.random, Row::Psel);
                 fields[0] = size;
                 fields[1] = offset;
                 self.encode(setting, Form::Psel, fields);
@@ -262,7 +266,7 @@ impl List {
         for size in [8, 16, 32] {
             for shift in 0..=size + 1 {
                 let setting = self.all_features();
-                let mut fields = samples::fields_in_range(&mut self.random, Form::Narrow);
+                let mut fields = samples::fields_in_range(&mut self.random, Row::Narrow);
                 fields[1] = size;
                 fields[2] = shift;
                 self.encode(setting, Form::Narrow, fields);
@@ -287,19 +291,19 @@ impl List {
         }
     }
 
-    /// Fields in range, for each form under every allowed feature number and
+    /// Fields in range, for each row under every allowed feature number and
     /// more of them under all features.
     fn fields_in_range(&mut self) {
-        for form in Form::ALL {
+        for row in Row::ALL {
             for features in (0..=ALL_FEATURES).filter(|&n| features_are_allowed(n)) {
                 let vl = self.any_length();
-                let fields = samples::fields_in_range(&mut self.random, form);
-                self.encode(Setting { vl, features }, form, fields);
+                let fields = samples::fields_in_range(&mut self.random, row);
+                self.encode(Setting { vl, features }, row.form(), fields);
             }
             for _ in 0..40 {
                 let setting = self.all_features();
-                let fields = samples::fields_in_range(&mut self.random, form);
-                self.encode(setting, form, fields);
+                let fields = samples::fields_in_range(&mut self.random, row);
+                self.encode(setting, row.form(), fields);
             }
         }
     }
@@ -311,7 +315,7 @@ mod tests {
     use crate::once::check_list;
 
     #[test]
-    fn eight_to_ten_thousand() {
-        check_list(generate, 8000..=10_000);
+    fn twelve_to_fourteen_thousand() {
+        check_list(generate, 12_000..=14_000);
     }
 }

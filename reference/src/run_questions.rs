@@ -6,8 +6,7 @@
 
 use crate::access::check;
 use crate::cases::{self, Case};
-use crate::instruction::Form;
-use crate::layout::has_features;
+use crate::layout::{Row, has_features};
 use crate::machine::Flags;
 use crate::once::Once;
 use crate::random::Random;
@@ -65,7 +64,7 @@ impl List {
 
     /// Words that are defined under all features.
     fn words(&mut self, length: usize) -> Vec<u32> {
-        stretch_of(&mut self.random, &Form::ALL, length)
+        stretch_of(&mut self.random, &Row::ALL, length)
     }
 
     fn both_orders(&mut self, case: &Case) {
@@ -75,13 +74,13 @@ impl List {
         }
     }
 
-    /// Each form refused with each number it can have, a missing feature
+    /// Each row refused with each number it can have, a missing feature
     /// among them, as the first word, a middle one and the last. The other
     /// words are all accepted.
     fn refused_words(&mut self) {
         for number in 3..=6 {
-            for form in Form::ALL {
-                let circumstances = circumstances_for(form, number);
+            for row in Row::ALL {
+                let circumstances = circumstances_for(row, number);
                 if circumstances.is_empty() {
                     continue;
                 }
@@ -90,9 +89,9 @@ impl List {
                     let length = 2 + self.random.below(6) as usize;
                     let mut start = self.start(features);
                     start.flags = flags;
-                    let accepted = accepted_forms(start.setting, flags);
+                    let accepted = accepted_rows(start.setting, flags);
                     let mut words = stretch_of(&mut self.random, &accepted, length);
-                    let refused = matching_word(&mut self.random, form);
+                    let refused = matching_word(&mut self.random, row);
                     words.insert([0, length / 2, length][turn % 3], refused);
                     self.add(start, words);
                 }
@@ -100,11 +99,11 @@ impl List {
         }
     }
 
-    /// Without any feature the first word is refused, whatever its form.
+    /// Without any feature the first word is refused, whatever its row.
     fn no_features(&mut self) {
-        for form in Form::ALL {
+        for row in Row::ALL {
             let start = self.start(0);
-            let mut words = vec![matching_word(&mut self.random, form)];
+            let mut words = vec![matching_word(&mut self.random, row)];
             words.extend(self.words(2));
             self.add(start, words);
         }
@@ -144,11 +143,11 @@ impl List {
             for accepted in 0..2 {
                 let refused = [
                     near_miss(&mut self.random),
-                    matching_word(&mut self.random, Form::Narrow),
-                    matching_word(&mut self.random, Form::Luti4c),
+                    matching_word(&mut self.random, Row::Narrow),
+                    matching_word(&mut self.random, Row::Luti4c),
                 ];
                 // Without SVE2p1 PEXT needs only S.
-                let mut words = stretch_of(&mut self.random, &[Form::Pext1, Form::Pext2], accepted);
+                let mut words = stretch_of(&mut self.random, &[Row::Pext1, Row::Pext2], accepted);
                 words.extend(order.map(|place: usize| refused[place]));
                 let mut start = self.start(28);
                 start.flags = flags;
@@ -197,9 +196,9 @@ impl List {
         let words = self.words(most);
         self.add(start, words);
         // One word again and again.
-        for form in Form::ALL {
+        for row in Row::ALL {
             let start = self.start(ALL_FEATURES);
-            let word = matching_word(&mut self.random, form);
+            let word = matching_word(&mut self.random, row);
             self.add(start, vec![word; 12]);
         }
     }
@@ -257,11 +256,11 @@ impl List {
     fn wrong_files(&mut self) {
         for (file, right) in [(0, 8192), (1, 512), (2, 64)] {
             for length in [right - 1, right + 1, 0] {
-                let forms = [&Form::ALL[..], &[Form::Pext1], &[Form::Narrow], &[]];
-                for forms in forms {
+                let choices = [&Row::ALL[..], &[Row::Pext1], &[Row::Narrow], &[]];
+                for rows in choices {
                     let mut start = self.start(ALL_FEATURES);
                     start.set_length(file, length);
-                    let words = stretch_of(&mut self.random, forms, 3);
+                    let words = stretch_of(&mut self.random, rows, 3);
                     self.add(start, words);
                 }
             }
@@ -314,10 +313,10 @@ impl List {
     fn psel(&mut self) {
         for features in FEATURES_FOR_PSEL {
             for number in [1, 6] {
-                for forms in [[Form::Psel, Form::Narrow], [Form::Narrow, Form::Psel]] {
+                for rows in [[Row::Psel, Row::Narrow], [Row::Narrow, Row::Psel]] {
                     let mut start = self.start(features);
                     start.flags = Flags::from_number(number).expect("three bits");
-                    let words = forms.map(|form| matching_word(&mut self.random, form));
+                    let words = rows.map(|row| matching_word(&mut self.random, row));
                     self.add(start, words.to_vec());
                 }
             }
@@ -325,31 +324,31 @@ impl List {
     }
 }
 
-/// The number a word of this form is answered with, everything else being in
+/// The number a word of this row is answered with, everything else being in
 /// order.
-fn number_for(form: Form, setting: Setting, flags: Flags) -> u32 {
-    if !has_features(form, setting) {
+fn number_for(row: Row, setting: Setting, flags: Flags) -> u32 {
+    if !has_features(row, setting) {
         return Refusal::Undefined.number();
     }
-    number_of(&check(form, setting, flags))
+    number_of(&check(row.form(), setting, flags))
 }
 
-fn accepted_forms(setting: Setting, flags: Flags) -> Vec<Form> {
-    Form::ALL
+fn accepted_rows(setting: Setting, flags: Flags) -> Vec<Row> {
+    Row::ALL
         .into_iter()
-        .filter(|&form| number_for(form, setting, flags) == 0)
+        .filter(|&row| number_for(row, setting, flags) == 0)
         .collect()
 }
 
-/// The features and flags under which the form is refused with the number and
-/// some other form is accepted.
-fn circumstances_for(form: Form, number: u32) -> Vec<(u32, Flags)> {
+/// The features and flags under which the row is refused with the number and
+/// some other row is accepted.
+fn circumstances_for(row: Row, number: u32) -> Vec<(u32, Flags)> {
     let mut found = Vec::new();
     for features in (0..=ALL_FEATURES).filter(|&n| features_are_allowed(n)) {
         for flags in (0..8).filter_map(Flags::from_number) {
             let setting = Setting { vl: 128, features };
-            if number_for(form, setting, flags) == number
-                && !accepted_forms(setting, flags).is_empty()
+            if number_for(row, setting, flags) == number
+                && !accepted_rows(setting, flags).is_empty()
             {
                 found.push((features, flags));
             }

@@ -5,41 +5,41 @@
 
 use crate::decode::decode;
 use crate::instruction::Form;
-use crate::layout::{has_field_condition, layout_of};
+use crate::layout::{Row, has_field_condition, layout_of};
 use crate::random::Random;
 use crate::setting::FULL;
 
-/// The bits of each field of a form in the word. PSEL's size and offset share
+/// The bits of each field of a row in the word. PSEL's size and offset share
 /// theirs, as do the narrowing words' size and shift, and LUTI4S has its destination in
 /// two pieces.
-pub fn field_masks(form: Form) -> &'static [u32] {
-    match form {
-        Form::Pext1 => &[0x00c0_0000, 0x300, 0xe0, 0xf],
-        Form::Pext2 => &[0x00c0_0000, 0x100, 0xe0, 0xf],
-        Form::Psel => &[0x00dc_0000, 0x0003_0000, 0x3c00, 0x1e0, 0xf],
-        Form::Luti4c => &[0x0001_0000, 0x3000, 0x3e0, 0x1c],
-        Form::Luti4s => &[0x0001_0000, 0x3000, 0x3e0, 0x13],
-        Form::Narrow => &[0x3c00, 0x005f_0000, 0x3e0, 0x1f],
+pub fn field_masks(row: Row) -> &'static [u32] {
+    match row {
+        Row::Pext1 => &[0x00c0_0000, 0x300, 0xe0, 0xf],
+        Row::Pext2 => &[0x00c0_0000, 0x100, 0xe0, 0xf],
+        Row::Psel => &[0x00dc_0000, 0x0003_0000, 0x3c00, 0x1e0, 0xf],
+        Row::Luti4c => &[0x0001_0000, 0x3000, 0x3e0, 0x1c],
+        Row::Luti4s => &[0x0001_0000, 0x3000, 0x3e0, 0x13],
+        Row::Narrow => &[0x3c00, 0x005f_0000, 0x3e0, 0x1f],
     }
 }
 
 /// The bits the field condition looks at and the values that fail it.
-pub fn failing_conditions(form: Form) -> (u32, &'static [u32]) {
-    match form {
-        Form::Pext1 | Form::Pext2 => (0, &[]),
-        Form::Psel => (0x005c_0000, &[0]),
-        Form::Luti4c => (0x3000, &[0x0000, 0x3000]),
-        Form::Luti4s => (0x3000, &[0x0000, 0x2000, 0x3000]),
-        Form::Narrow => (0x0058_0000, &[0]),
+pub fn failing_conditions(row: Row) -> (u32, &'static [u32]) {
+    match row {
+        Row::Pext1 | Row::Pext2 => (0, &[]),
+        Row::Psel => (0x005c_0000, &[0]),
+        Row::Luti4c => (0x3000, &[0x0000, 0x3000]),
+        Row::Luti4s => (0x3000, &[0x0000, 0x2000, 0x3000]),
+        Row::Narrow => (0x0058_0000, &[0]),
     }
 }
 
-/// A word with the form's fixed bits and its field condition.
-pub fn matching_word(random: &mut Random, form: Form) -> u32 {
-    let layout = layout_of(form);
+/// A word with the row's fixed bits and its field condition.
+pub fn matching_word(random: &mut Random, row: Row) -> u32 {
+    let layout = layout_of(row);
     loop {
         let word = (random.next_u32() & !layout.mask) | layout.value;
-        if has_field_condition(form, word) {
+        if has_field_condition(row, word) {
             return word;
         }
     }
@@ -51,26 +51,36 @@ pub fn narrow_word(bits: u32, amount: u32, zn: u32, zd: u32) -> u32 {
     0x4520_0000 | bits << 10 | spread(amount, 0x005f_0000) | zn << 5 | zd
 }
 
+/// The PEXT word with this size and PNn as the word has them, these portions,
+/// one or two, and Pd.
+pub fn pext_word(size: u32, first: u32, portions: u32, pnn: u32, pd: u32) -> u32 {
+    let portions = match portions {
+        1 => first << 8,
+        _ => 0x400 | (first / 2) << 8,
+    };
+    0x2520_7010 | size << 22 | portions | pnn << 5 | pd
+}
+
 /// The PSEL word with this i1:tszh:tszl, which may be that of no size, this
 /// Rv, and these registers.
 pub fn psel_word(imm: u32, rv: u32, pn: u32, pm: u32, pd: u32) -> u32 {
     0x2520_4000 | spread(imm, 0x00dc_0000) | rv << 16 | pn << 10 | pm << 5 | pd
 }
 
-/// A word with the form's fixed bits, failing its field condition; none for
-/// the forms without one.
-pub fn failing_word(random: &mut Random, form: Form) -> Option<u32> {
-    let (mask, values) = failing_conditions(form);
+/// A word with the row's fixed bits, failing its field condition; none for
+/// the rows without one.
+pub fn failing_word(random: &mut Random, row: Row) -> Option<u32> {
+    let (mask, values) = failing_conditions(row);
     if values.is_empty() {
         return None;
     }
-    let word = matching_word(random, form);
+    let word = matching_word(random, row);
     Some((word & !mask) | random.pick(values))
 }
 
 /// A word one or two bits away from a matching one.
-pub fn flipped_word(random: &mut Random, form: Form, flips: u32) -> u32 {
-    let mut word = matching_word(random, form);
+pub fn flipped_word(random: &mut Random, row: Row, flips: u32) -> u32 {
+    let mut word = matching_word(random, row);
     let first = random.below(32);
     word ^= 1 << first;
     if flips == 2 {
@@ -83,11 +93,11 @@ pub fn flipped_word(random: &mut Random, form: Form, flips: u32) -> u32 {
 /// A word that nearly matches and is undefined under all features.
 pub fn near_miss(random: &mut Random) -> u32 {
     loop {
-        let form = random.pick(&Form::ALL);
+        let row = random.pick(&Row::ALL);
         let word = match random.below(3) {
-            0 => failing_word(random, form),
-            1 => Some(flipped_word(random, form, 1)),
-            _ => Some(flipped_word(random, form, 2)),
+            0 => failing_word(random, row),
+            1 => Some(flipped_word(random, row, 1)),
+            _ => Some(flipped_word(random, row, 2)),
         };
         if let Some(word) = word
             && decode(FULL, word).is_err()
@@ -97,26 +107,27 @@ pub fn near_miss(random: &mut Random) -> u32 {
     }
 }
 
-/// Fields of the form, all in their ranges.
-pub fn fields_in_range(random: &mut Random, form: Form) -> [u32; 6] {
-    match form {
-        Form::Pext1 => [
+/// Fields of the row's form, all in their ranges; for PEXT those of the row's
+/// number of portions.
+pub fn fields_in_range(random: &mut Random, row: Row) -> [u32; 6] {
+    match row {
+        Row::Pext1 => [
             random.pick(&[8, 16, 32, 64]),
             random.below(4),
+            1,
             8 + random.below(8),
             random.below(16),
             0,
-            0,
         ],
-        Form::Pext2 => [
+        Row::Pext2 => [
             random.pick(&[8, 16, 32, 64]),
-            random.below(2),
+            2 * random.below(2),
+            2,
             8 + random.below(8),
             random.below(16),
             0,
-            0,
         ],
-        Form::Psel => {
+        Row::Psel => {
             let size = random.pick(&[8, 16, 32, 64]);
             [
                 size,
@@ -127,7 +138,7 @@ pub fn fields_in_range(random: &mut Random, form: Form) -> [u32; 6] {
                 random.below(16),
             ]
         }
-        Form::Luti4c => [
+        Row::Luti4c => [
             random.pick(&[16, 32]),
             random.below(2),
             random.below(32),
@@ -135,7 +146,7 @@ pub fn fields_in_range(random: &mut Random, form: Form) -> [u32; 6] {
             0,
             0,
         ],
-        Form::Luti4s => [
+        Row::Luti4s => [
             16,
             random.below(2),
             random.below(32),
@@ -143,7 +154,7 @@ pub fn fields_in_range(random: &mut Random, form: Form) -> [u32; 6] {
             0,
             0,
         ],
-        Form::Narrow => {
+        Row::Narrow => {
             let size = random.pick(&[8, 16, 32]);
             [
                 random.below(16),
@@ -164,8 +175,14 @@ pub fn values_outside(form: Form, place: usize) -> &'static [u32] {
     const COUNTER: &[u32] = &[0, 1, 7, 16];
     const ELEMENT_SIZE: &[u32] = &[0, 1, 4, 7, 9, 24, 63, 65, 128];
     let by_place: [&[u32]; 6] = match form {
-        Form::Pext1 => [ELEMENT_SIZE, &[4, 5, 7], COUNTER, PREDICATE, &[], &[]],
-        Form::Pext2 => [ELEMENT_SIZE, &[2, 3], COUNTER, PREDICATE, &[], &[]],
+        Form::Pext => [
+            ELEMENT_SIZE,
+            &[4, 5, 6, 7],
+            &[0, 3, 4, 5],
+            COUNTER,
+            PREDICATE,
+            &[],
+        ],
         Form::Psel => [
             ELEMENT_SIZE,
             &[16, 17, 31],
@@ -202,14 +219,14 @@ pub fn values_outside(form: Form, place: usize) -> &'static [u32] {
     by_place[place]
 }
 
-/// Words for the lister: by the toss of a coin a matching word of any form,
+/// Words for the lister: by the toss of a coin a matching word of any row,
 /// or else a near miss or any word at all.
 pub fn listing_words(seed: u64, count: u64) -> impl Iterator<Item = u32> {
     let mut random = Random::new(seed);
     (0..count).map(move |_| {
         if random.coin() {
-            let form = random.pick(&Form::ALL);
-            matching_word(&mut random, form)
+            let row = random.pick(&Row::ALL);
+            matching_word(&mut random, row)
         } else if random.coin() {
             near_miss(&mut random)
         } else {
@@ -236,17 +253,17 @@ mod tests {
     use super::*;
     use crate::encode::in_range;
     use crate::instruction::Instruction;
-    use crate::layout::form_by_fixed_bits;
+    use crate::layout::row_by_fixed_bits;
 
     #[test]
     fn field_masks_are_just_the_bits_that_are_not_fixed() {
-        for form in Form::ALL {
+        for row in Row::ALL {
             let mut all = 0;
-            for &mask in field_masks(form) {
+            for &mask in field_masks(row) {
                 assert_eq!(all & mask, 0);
                 all |= mask;
             }
-            assert_eq!(all, !layout_of(form).mask);
+            assert_eq!(all, !layout_of(row).mask);
         }
     }
 
@@ -254,18 +271,21 @@ mod tests {
     fn samples_are_what_they_are_called() {
         let mut random = Random::new(11);
         for _ in 0..500 {
-            for form in Form::ALL {
-                let word = matching_word(&mut random, form);
-                assert_eq!(decode(FULL, word).map(|i| i.form()), Ok(form));
-                let fields = fields_in_range(&mut random, form);
-                assert!(in_range(Instruction::from_fields(form, fields)));
+            for row in Row::ALL {
+                let word = matching_word(&mut random, row);
+                assert_eq!(decode(FULL, word).map(|i| i.row()), Ok(row));
+                let form = row.form();
+                let fields = fields_in_range(&mut random, row);
+                let instruction = Instruction::from_fields(form, fields);
+                assert!(in_range(instruction));
+                assert_eq!(instruction.row(), row);
                 for place in 0..form.field_count() {
                     let mut fields = fields;
                     fields[place] = random.pick(values_outside(form, place));
                     assert!(!in_range(Instruction::from_fields(form, fields)));
                 }
-                if let Some(word) = failing_word(&mut random, form) {
-                    assert_eq!(form_by_fixed_bits(word), Some(form));
+                if let Some(word) = failing_word(&mut random, row) {
+                    assert_eq!(row_by_fixed_bits(word), Some(row));
                     assert!(decode(FULL, word).is_err());
                 }
             }
@@ -278,9 +298,9 @@ mod tests {
         let mut random = Random::new(12);
         let (mut matching, mut failing) = ([0; 16], [0; 16]);
         for _ in 0..1000 {
-            let word = matching_word(&mut random, Form::Narrow);
+            let word = matching_word(&mut random, Row::Narrow);
             matching[(word >> 10 & 15) as usize] += 1;
-            let word = failing_word(&mut random, Form::Narrow).unwrap();
+            let word = failing_word(&mut random, Row::Narrow).unwrap();
             failing[(word >> 10 & 15) as usize] += 1;
         }
         assert!(matching.iter().chain(&failing).all(|&count| count > 20));
@@ -302,6 +322,16 @@ mod tests {
         assert_eq!(narrow_word(14, 2 * 32 - 1, 0, 0), 0x457f_3800);
         assert_eq!(narrow_word(14, 0, 0, 0), 0x4520_3800);
         assert_eq!(narrow_word(9, 2 * 16 - 5, 31, 2), 0x453b_27e2);
+    }
+
+    /// Document 01's lister's word and point 11, and one of each layout with a
+    /// number in every field.
+    #[test]
+    fn pext_words_by_hand() {
+        assert_eq!(pext_word(0, 0, 1, 0, 0), 0x2520_7010);
+        assert_eq!(pext_word(0, 0, 2, 0, 15), 0x2520_741f);
+        assert_eq!(pext_word(3, 2, 1, 5, 6), 0x25e0_72b6);
+        assert_eq!(pext_word(2, 2, 2, 7, 9), 0x25a0_75f9);
     }
 
     /// Document 01's point 10, and one with a number in every field.

@@ -41,28 +41,16 @@ enum Written {
 
 fn execute(instruction: Instruction, vl: u32, machine: &Machine) -> Vec<Written> {
     match instruction {
-        Instruction::Pext1 {
+        Instruction::Pext {
             size,
-            portion,
+            first,
+            portions,
             counter,
             pd,
         } => {
             let counter = Counter::in_register(&machine.predicate(counter, vl));
-            vec![Written::Predicate(pd, pext(counter, size, portion, vl))]
-        }
-        Instruction::Pext2 {
-            size,
-            i1,
-            counter,
-            pd,
-        } => {
-            let counter = Counter::in_register(&machine.predicate(counter, vl));
-            let first = pext(counter, size, 2 * i1, vl);
-            let second = pext(counter, size, 2 * i1 + 1, vl);
-            vec![
-                Written::Predicate(pd, first),
-                Written::Predicate((pd + 1) % 16, second),
-            ]
+            let results = pext(counter, size, first, portions, vl);
+            going_around(pd, results)
         }
         Instruction::Psel {
             size,
@@ -99,7 +87,18 @@ fn execute(instruction: Instruction, vl: u32, machine: &Machine) -> Vec<Written>
     }
 }
 
-/// Results for registers a fixed distance apart.
+/// Results for P registers one after the other, P0 after P15.
+fn going_around(first: u32, results: Vec<Vec<bool>>) -> Vec<Written> {
+    let mut written = Vec::new();
+    let mut register = first;
+    for result in results {
+        written.push(Written::Predicate(register, result));
+        register = (register + 1) % 16;
+    }
+    written
+}
+
+/// Results for Z registers a fixed distance apart.
 fn spaced(first: u32, distance: u32, results: Vec<Vec<bool>>) -> Vec<Written> {
     let mut written = Vec::new();
     let mut register = first;

@@ -12,6 +12,7 @@ mod psel;
 mod refusals;
 
 use crate::instruction::Form;
+use crate::layout::Row;
 use crate::machine::{Flags, P_SLOT_BYTES, Z_FILE_BYTES, Z_SLOT_BYTES};
 use crate::once::Once;
 use crate::random::Random;
@@ -49,9 +50,9 @@ impl List {
         self.random.pick(&VECTOR_LENGTHS)
     }
 
-    /// Fields of the form, all in their ranges.
-    fn fields(&mut self, form: Form) -> [u32; 6] {
-        samples::fields_in_range(&mut self.random, form)
+    /// Fields of the row's form, all in their ranges.
+    fn fields(&mut self, row: Row) -> [u32; 6] {
+        samples::fields_in_range(&mut self.random, row)
     }
 
     /// A register below `count` that is none of these.

@@ -1,8 +1,7 @@
 //! Seeded machines, stretches of words and orders for them, to run.
 
 use crate::decode::decode;
-use crate::instruction::Form;
-use crate::layout::has_features;
+use crate::layout::{Row, has_features};
 use crate::machine::Machine;
 use crate::random::Random;
 use crate::samples::matching_word;
@@ -34,16 +33,16 @@ pub fn any_setting(random: &mut Random) -> Setting {
 
 /// Words that are all defined under the setting; none where nothing is.
 pub fn any_stretch(random: &mut Random, setting: Setting, length: usize) -> Vec<u32> {
-    let forms: Vec<Form> = Form::ALL
+    let rows: Vec<Row> = Row::ALL
         .into_iter()
-        .filter(|&form| has_features(form, setting))
+        .filter(|&row| has_features(row, setting))
         .collect();
-    stretch_of(random, &forms, length)
+    stretch_of(random, &rows, length)
 }
 
-/// Words of these forms; none where there are no forms.
-pub fn stretch_of(random: &mut Random, forms: &[Form], length: usize) -> Vec<u32> {
-    if forms.is_empty() {
+/// Words of these rows; none where there are no rows.
+pub fn stretch_of(random: &mut Random, rows: &[Row], length: usize) -> Vec<u32> {
+    if rows.is_empty() {
         return Vec::new();
     }
     let mut words = Vec::new();
@@ -52,8 +51,8 @@ pub fn stretch_of(random: &mut Random, forms: &[Form], length: usize) -> Vec<u32
         if !words.is_empty() && random.below(8) == 0 {
             words.push(random.pick(&words));
         } else {
-            let form = random.pick(forms);
-            words.push(matching_word(random, form));
+            let row = random.pick(rows);
+            words.push(matching_word(random, row));
         }
     }
     words

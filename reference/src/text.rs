@@ -6,14 +6,15 @@
 //! nine numbers (81 bytes); these, or a further part of fixed length, tell how
 //! many more there are.
 //!
-//! **Kinds 0 to 6, 8 and 11** are `kind vl features n1 n2 n3 n4 n5 n6` (81
+//! **Kinds 0 to 6, 8, 11 and 12** are `kind vl features n1 n2 n3 n4 n5 n6` (81
 //! bytes). Kind 0 is decode with n1 the word. Kinds 1 to 6 are encode of a
-//! list whose form is one less, and kind 11 (`0000000b`) of form 6, with the
-//! list's other six numbers in order; where the form is not used any more
-//! (form 5, kind 6) these may be anything. Kind 8 asks whether the words n1
-//! and n2 conflict. Places that are not used are 0. Their answers have eight
-//! numbers (72 bytes), told in `question`; a form in them is one more than
-//! the list's, so 7 for form 6.
+//! list whose form is one less, kind 11 (`0000000b`) of form 6 and kind 12
+//! (`0000000c`) of form 7, with the list's other six numbers in order; where
+//! the form is not used any more (forms 0, 1 and 5, kinds 1, 2 and 6) these
+//! may be anything. Kind 8 asks whether the words n1 and n2 conflict. Places
+//! that are not used are 0. Their answers have eight numbers (72 bytes), told
+//! in `question`; a form in them is one more than the list's, so 7 for form 6
+//! and 8 for form 7.
 //!
 //! **Kind 7** is a step, twenty numbers (180 bytes):
 //!
@@ -66,7 +67,7 @@
 
 mod machines;
 
-use crate::instruction::Form;
+use crate::instruction::{Form, RETIRED_FORMS};
 use crate::permission_question::PermissionQuestion;
 use crate::question::Question;
 use crate::setting::Setting;
@@ -89,10 +90,10 @@ pub const CONFLICT_KIND: u32 = 8;
 pub const RUN_KIND: u32 = 9;
 pub const PERMISSION_KIND: u32 = 10;
 
-/// Encode of the form that is not used any more.
-pub const RETIRED_KIND: u32 = 6;
 /// Encode of the narrowing family; the kinds between were taken.
 pub const NARROW_KIND: u32 = 11;
+/// Encode of PEXT.
+pub const PEXT_KIND: u32 = 12;
 
 /// A question is not asked about more words or entries than this, so that a
 /// wrong line cannot take all memory.
@@ -103,7 +104,7 @@ pub fn question_line(question: &Question) -> String {
     let (kind, [a, b, c, d, e, f]) = match *question {
         Question::Decode { word, .. } => (0, [word, 0, 0, 0, 0, 0]),
         Question::Encode { form, fields, .. } => (encode_kind(form), fields),
-        Question::EncodeRetired { fields, .. } => (RETIRED_KIND, fields),
+        Question::EncodeRetired { form, fields, .. } => (retired_kind(form), fields),
         Question::Conflict { first, second, .. } => (CONFLICT_KIND, [first, second, 0, 0, 0, 0]),
     };
     numbers_line(&[kind, setting.vl, setting.features, a, b, c, d, e, f])
@@ -162,32 +163,40 @@ pub fn read_question(line: &[u8]) -> Result<Question, String> {
     let form = Form::ALL
         .into_iter()
         .find(|&form| encode_kind(form) == kind);
-    let (used, question) = match (kind, form) {
-        (_, Some(form)) => (
-            form.field_count(),
-            Question::Encode {
-                setting,
-                form,
-                fields,
-            },
-        ),
-        (0, None) => (
-            1,
-            Question::Decode {
-                setting,
-                word: fields[0],
-            },
-        ),
-        (RETIRED_KIND, None) => (6, Question::EncodeRetired { setting, fields }),
-        (CONFLICT_KIND, None) => (
-            2,
-            Question::Conflict {
-                setting,
-                first: fields[0],
-                second: fields[1],
-            },
-        ),
-        (_, None) => return Err(format!("there is no kind {kind:08x} of this length")),
+    let retired = RETIRED_FORMS
+        .into_iter()
+        .find(|&form| retired_kind(form) == kind);
+    let (used, question) = if let Some(form) = form {
+        let question = Question::Encode {
+            setting,
+            form,
+            fields,
+        };
+        (form.field_count(), question)
+    } else if let Some(form) = retired {
+        let question = Question::EncodeRetired {
+            setting,
+            form,
+            fields,
+        };
+        (6, question)
+    } else {
+        let [first, second, ..] = fields;
+        match kind {
+            0 => {
+                let word = first;
+                (1, Question::Decode { setting, word })
+            }
+            CONFLICT_KIND => {
+                let question = Question::Conflict {
+                    setting,
+                    first,
+                    second,
+                };
+                (2, question)
+            }
+            _ => return Err(format!("there is no kind {kind:08x} of this length")),
+        }
     };
     if fields[used..].iter().any(|&field| field != 0) {
         return Err("a place that is not used is not 0".to_string());
@@ -198,9 +207,15 @@ pub fn read_question(line: &[u8]) -> Result<Question, String> {
 /// The kind of a question about encode of a form.
 fn encode_kind(form: Form) -> u32 {
     match form {
-        Form::Pext1 | Form::Pext2 | Form::Psel | Form::Luti4c | Form::Luti4s => form.number(),
+        Form::Psel | Form::Luti4c | Form::Luti4s => form.number(),
         Form::Narrow => NARROW_KIND,
+        Form::Pext => PEXT_KIND,
     }
+}
+
+/// The kind of a question about encode of a form that is not used any more.
+fn retired_kind(form: u32) -> u32 {
+    form + 1
 }
 
 /// Refuses everything that `permission_question_line` could not have written.
@@ -316,6 +331,35 @@ mod tests {
         assert_eq!(question_line(&question).as_bytes(), LINE);
     }
 
+    /// PEXT by its kind, and the forms it had before by theirs.
+    #[test]
+    fn pext_lines_are_read_and_written() {
+        let fields = [64, 2, 2, 9, 15, 0];
+        let setting = crate::setting::FULL;
+        let form = Form::Pext;
+        let pext = Question::Encode {
+            setting,
+            form,
+            fields,
+        };
+        let retired = |form| Question::EncodeRetired {
+            setting,
+            form,
+            fields,
+        };
+        let numbers = "00000080 0000001f 00000040 00000002 00000002 00000009 0000000f 00000000";
+        for (kind, question) in [
+            ("0000000c", pext),
+            ("00000001", retired(0)),
+            ("00000002", retired(1)),
+            ("00000006", retired(5)),
+        ] {
+            let line = format!("{kind} {numbers}\n");
+            assert_eq!(question_line(&question), line);
+            assert_eq!(read_question(line.as_bytes()), Ok(question));
+        }
+    }
+
     #[test]
     fn a_conflict_line_is_read_and_written() {
         let line =
@@ -387,10 +431,12 @@ mod tests {
         assert!(spoilt(7, b'7').is_err()); // a step is longer
         assert!(spoilt(7, b'9').is_err()); // and so is a run
         assert!(spoilt(7, b'b').is_err()); // the narrowing family has five fields
-        assert!(spoilt(7, b'c').is_err()); // no kind 12
-        assert!(spoilt(7, b'6').is_ok()); // whatever follows
+        assert!(spoilt(7, b'c').is_err()); // and so has PEXT
+        assert!(spoilt(7, b'd').is_err()); // no kind 13
+        for retired in [b'1', b'2', b'6'] {
+            assert!(spoilt(7, retired).is_ok()); // whatever follows
+        }
         assert!(spoilt(7, b'0').is_err()); // decode with more than a word
-        assert!(spoilt(7, b'1').is_err()); // PEXT1 with six fields
         assert!(spoilt(79, b'0').is_ok());
     }
 }

@@ -26,13 +26,14 @@ pub struct Touch {
 pub fn touch(instruction: Instruction) -> Touch {
     use Register::{P, W, Z, Zt0};
     match instruction {
-        Instruction::Pext1 { counter, pd, .. } => Touch {
+        Instruction::Pext {
+            portions,
+            counter,
+            pd,
+            ..
+        } => Touch {
             reads: vec![P(counter)],
-            writes: vec![P(pd)],
-        },
-        Instruction::Pext2 { counter, pd, .. } => Touch {
-            reads: vec![P(counter)],
-            writes: vec![P(pd), P((pd + 1) % 16)],
+            writes: (0..portions).map(|k| P((pd + k) % 16)).collect(),
         },
         Instruction::Psel {
             index, pn, pm, pd, ..
@@ -97,6 +98,22 @@ mod tests {
         assert_eq!(touch(strided).writes, z([19, 23, 27, 31]));
     }
 
+    /// The counter is read, and as many registers written as portions asked.
+    #[test]
+    fn destinations_of_pext() {
+        use Register::P;
+        for (portions, pd, written) in [
+            (1, 3, vec![P(3)]),
+            (1, 15, vec![P(15)]),
+            (2, 3, vec![P(3), P(4)]),
+            (2, 15, vec![P(15), P(0)]),
+        ] {
+            let pext = Instruction::from_fields(Form::Pext, [8, 2, portions, 9, pd, 0]);
+            let touched = touch(pext);
+            assert_eq!((touched.reads, touched.writes), (vec![P(9)], written));
+        }
+    }
+
     /// A T word reads its destination, a B word does not.
     #[test]
     fn what_the_family_reads() {
@@ -115,7 +132,7 @@ mod tests {
     #[test]
     fn readers_alone_do_not_conflict() {
         // Counter P9, Pn and Pm P9; all destinations apart.
-        let pext = word(Form::Pext1, [8, 0, 9, 1, 0, 0]);
+        let pext = word(Form::Pext, [8, 0, 1, 9, 1, 0]);
         let psel = word(Form::Psel, [8, 0, 12, 9, 9, 2]);
         let other_psel = word(Form::Psel, [16, 1, 12, 9, 9, 3]);
         assert_eq!(conflict(FULL, pext, psel), Ok(false));
@@ -136,9 +153,9 @@ mod tests {
 
     #[test]
     fn pairs_wrap_around() {
-        let pair = word(Form::Pext2, [8, 0, 8, 15, 0, 0]);
-        let at_0 = word(Form::Pext1, [8, 0, 9, 0, 0, 0]);
-        let at_14 = word(Form::Pext1, [8, 0, 9, 14, 0, 0]);
+        let pair = word(Form::Pext, [8, 0, 2, 8, 15, 0]);
+        let at_0 = word(Form::Pext, [8, 0, 1, 9, 0, 0]);
+        let at_14 = word(Form::Pext, [8, 0, 1, 9, 14, 0]);
         assert_eq!(conflict(FULL, pair, at_0), Ok(true));
         assert_eq!(conflict(FULL, at_0, pair), Ok(true));
         assert_eq!(conflict(FULL, pair, at_14), Ok(false));

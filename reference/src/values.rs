@@ -54,6 +54,53 @@ pub const FEATURES_FOR_FLAGS: [u32; 7] = [3, 4, 7, 12, 28, 29, 31];
 /// SVE2 alone, with SVE2p1, SME alone, with SVE2, and all three.
 pub const FEATURES_FOR_PSEL: [u32; 5] = [1, 3, 4, 5, 7];
 
+/// First portions: those of a word, those next to them, numbers that are
+/// among them after a cast, and such as a sum with the number of portions, or
+/// a double, takes around 2^32.
+pub const FIRST_PORTIONS: [u32; 20] = [
+    0,
+    1,
+    2,
+    3,
+    4,
+    5,
+    6,
+    255,
+    256,
+    256 + 2,
+    65536,
+    65536 + 2,
+    (1 << 31) - 2,
+    1 << 31,
+    (1 << 31) + 1,
+    (1 << 31) + 2,
+    u32::MAX - 3,
+    u32::MAX - 2,
+    u32::MAX - 1,
+    u32::MAX,
+];
+
+/// Numbers of portions, chosen alike.
+pub const NUMBERS_OF_PORTIONS: [u32; 17] = [
+    0,
+    1,
+    2,
+    3,
+    4,
+    255,
+    256,
+    256 + 1,
+    256 + 2,
+    65536,
+    65536 + 1,
+    65536 + 2,
+    1 << 31,
+    (1 << 31) + 1,
+    (1 << 31) + 2,
+    u32::MAX - 1,
+    u32::MAX,
+];
+
 /// Values of PC at the wrap, at halves' ends and off the multiples of 4.
 pub const PCS_OF_NOTE: [u64; 14] = [
     0,

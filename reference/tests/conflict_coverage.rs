@@ -8,7 +8,8 @@ use std::collections::HashSet;
 use masks::{conflict, masks};
 use reference::conflict_questions::generate;
 use reference::decode::decode;
-use reference::instruction::{Form, Instruction};
+use reference::instruction::Instruction;
+use reference::layout::Row;
 use reference::question::Question;
 use reference::setting::{FULL, Setting};
 use reference::text::{QUESTION_BYTES, question_line, read_question};
@@ -66,22 +67,22 @@ fn both_orders_with_one_answer() {
 }
 
 #[test]
-fn every_answer_and_every_pair_of_forms() {
+fn every_answer_and_every_pair_of_rows() {
     for seed in SEEDS {
         let pairs = pairs(seed);
         for answer in [[0, 0], [0, 1], [1, 0], [3, 0]] {
             let count = pairs.iter().filter(|pair| pair.3 == answer).count();
             assert!(count > 90, "{answer:?}: {count}");
         }
-        let form = |word: u32| decode(FULL, word).map(|i| i.form());
-        for a in Form::ALL {
-            for b in Form::ALL {
+        let row = |word: u32| decode(FULL, word).map(|i| i.row());
+        for a in Row::ALL {
+            for b in Row::ALL {
                 let answers: HashSet<u32> = pairs
                     .iter()
-                    .filter(|pair| pair.3[0] == 0 && form(pair.1) == Ok(a) && form(pair.2) == Ok(b))
+                    .filter(|pair| pair.3[0] == 0 && row(pair.1) == Ok(a) && row(pair.2) == Ok(b))
                     .map(|pair| pair.3[1])
                     .collect();
-                let predicates = |form| matches!(form, Form::Pext1 | Form::Pext2 | Form::Psel);
+                let predicates = |row| matches!(row, Row::Pext1 | Row::Pext2 | Row::Psel);
                 let expected: &[u32] = if predicates(a) == predicates(b) {
                     &[0, 1]
                 } else {
@@ -111,8 +112,8 @@ fn every_pair_of_narrowing_words() {
                     asked.insert((bits, other, value));
                 }
                 (Instruction::Narrow { bits, .. }, other) => {
-                    if matches!(other.form(), Form::Luti4c | Form::Luti4s) {
-                        beside_lookups.insert((bits, other.form(), value));
+                    if matches!(other.row(), Row::Luti4c | Row::Luti4s) {
+                        beside_lookups.insert((bits, other.row(), value));
                     }
                 }
                 _ => {}
@@ -123,7 +124,7 @@ fn every_pair_of_narrowing_words() {
     }
 }
 
-/// PSEL with SVE2p1 alone: both answers beside the forms of predicates, by each
+/// PSEL with SVE2p1 alone: both answers beside the rows of predicates, by each
 /// of its registers; refused beside a lookup, and with SVE2 alone.
 #[test]
 fn psel_without_sme() {
@@ -131,32 +132,32 @@ fn psel_without_sme() {
         let mut asked = HashSet::new();
         let mut met = HashSet::new();
         for (setting, first, second, answer) in pairs(seed) {
-            let [first_form, form] = [first, second].map(|word| decode(FULL, word));
-            let (Ok(Instruction::Psel { pn, pm, pd, .. }), Ok(form)) = (first_form, form) else {
+            let [psel, other] = [first, second].map(|word| decode(FULL, word));
+            let (Ok(Instruction::Psel { pn, pm, pd, .. }), Ok(other)) = (psel, other) else {
                 continue;
             };
-            asked.insert((setting.features, form.form(), answer));
+            asked.insert((setting.features, other.row(), answer));
             let (_, written) = masks(second);
             for (role, register) in [("Pn", pn), ("Pm", pm), ("Pd", pd)] {
                 if setting.features == 3 && written >> (32 + register) & 1 == 1 {
-                    met.insert((role, form.form()));
+                    met.insert((role, other.row()));
                 }
             }
         }
-        for form in Form::ALL {
-            let expected: &[[u32; 2]] = match form {
-                Form::Pext1 | Form::Pext2 | Form::Psel => &[[0, 0], [0, 1]],
-                Form::Narrow => &[[0, 0]],
-                Form::Luti4c | Form::Luti4s => &[[3, 0]],
+        for row in Row::ALL {
+            let expected: &[[u32; 2]] = match row {
+                Row::Pext1 | Row::Pext2 | Row::Psel => &[[0, 0], [0, 1]],
+                Row::Narrow => &[[0, 0]],
+                Row::Luti4c | Row::Luti4s => &[[3, 0]],
             };
             for &answer in expected {
-                assert!(asked.contains(&(3, form, answer)), "{form:?} {answer:?}");
+                assert!(asked.contains(&(3, row, answer)), "{row:?} {answer:?}");
             }
-            assert!(asked.contains(&(1, form, [3, 0])), "{form:?}");
+            assert!(asked.contains(&(1, row, [3, 0])), "{row:?}");
         }
         assert_eq!(met.len(), 3 * 3, "{met:?}");
         for features in [3, 4, 5, 7] {
-            let read = |&(f, _, answer): &(u32, Form, [u32; 2])| f == features && answer[0] == 0;
+            let read = |&(f, _, answer): &(u32, Row, [u32; 2])| f == features && answer[0] == 0;
             assert!(asked.iter().any(read), "{features}");
         }
     }
@@ -175,7 +176,7 @@ fn shared_reads_and_the_wrap() {
             if number != 0 {
                 continue;
             }
-            let forms = [first, second].map(|word| decode(FULL, word).unwrap().form());
+            let rows = [first, second].map(|word| decode(FULL, word).unwrap().row());
             let (first_reads, first_writes) = masks(first);
             let (second_reads, second_writes) = masks(second);
             if value == 0 {
@@ -183,13 +184,12 @@ fn shared_reads_and_the_wrap() {
                     *count += (first_reads & second_reads) >> register & 1;
                 }
                 same_w +=
-                    usize::from(forms == [Form::Psel; 2] && first >> 16 & 3 == second >> 16 & 3);
+                    usize::from(rows == [Row::Psel; 2] && first >> 16 & 3 == second >> 16 & 3);
                 both_lookups += usize::from(
-                    forms
-                        .iter()
-                        .all(|f| matches!(f, Form::Luti4c | Form::Luti4s)),
+                    rows.iter()
+                        .all(|row| matches!(row, Row::Luti4c | Row::Luti4s)),
                 );
-            } else if forms[0] == Form::Pext2 && first & 15 == 15 && forms[1] != Form::Pext2 {
+            } else if rows[0] == Row::Pext2 && first & 15 == 15 && rows[1] != Row::Pext2 {
                 // Only P0, or only P15, is what they have in common.
                 let other = second_reads | second_writes;
                 around[0] |= other & (1 << 32) != 0 && other & (1 << 47) == 0;

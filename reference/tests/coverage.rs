@@ -3,8 +3,9 @@
 use std::collections::HashSet;
 
 use reference::decode::decode;
-use reference::instruction::Form;
-use reference::layout::{form_by_fixed_bits, layout_of};
+use reference::encode::in_range;
+use reference::instruction::{Form, Instruction, RETIRED_FORMS};
+use reference::layout::{Row, layout_of, row_by_fixed_bits};
 use reference::question::Question;
 use reference::questions::{FEATURES_ABOVE, LENGTHS_NOT_ALLOWED, PRINTED_WORDS, generate};
 use reference::samples::{failing_conditions, field_masks, spread};
@@ -37,28 +38,33 @@ fn encodes(questions: &[Question]) -> Vec<(Setting, Form, [u32; 6])> {
         .collect()
 }
 
+/// The row that a list is nearest to: that of its word, where it has one.
+fn row_of(form: Form, fields: [u32; 6]) -> Row {
+    Instruction::from_fields(form, fields).row()
+}
+
 /// Which answer numbers come up for these questions.
 fn numbers<'a>(questions: impl Iterator<Item = &'a Question>) -> HashSet<u32> {
     questions.map(|question| question.answer()[0]).collect()
 }
 
 #[test]
-fn every_feature_number_for_every_form() {
+fn every_feature_number_for_every_row() {
     for seed in SEEDS {
         let questions = generate(seed);
         for features in (0..32).chain(FEATURES_ABOVE) {
-            for form in Form::ALL {
+            for row in Row::ALL {
                 let here =
                     |setting: Setting| setting.features == features && vl_is_allowed(setting.vl);
                 let word_asked = decodes(&questions).into_iter().any(|(setting, word)| {
-                    here(setting) && decode(FULL, word).map(|i| i.form()) == Ok(form)
+                    here(setting) && decode(FULL, word).map(|i| i.row()) == Ok(row)
                 });
-                assert!(word_asked, "{features} {form:?}");
+                assert!(word_asked, "{features} {row:?}");
                 // In range and out of it, told apart by what full features
                 // answer.
                 let asked: HashSet<u32> = encodes(&questions)
                     .into_iter()
-                    .filter(|&(setting, asked, _)| here(setting) && asked == form)
+                    .filter(|&(setting, form, fields)| here(setting) && row_of(form, fields) == row)
                     .map(|(_, form, fields)| {
                         let full = Question::Encode {
                             setting: FULL,
@@ -68,14 +74,14 @@ fn every_feature_number_for_every_form() {
                         full.answer()[0]
                     })
                     .collect();
-                assert_eq!(asked, HashSet::from([0, 9]), "{features} {form:?}");
+                assert_eq!(asked, HashSet::from([0, 9]), "{features} {row:?}");
             }
         }
     }
 }
 
 #[test]
-fn every_vector_length_for_every_form() {
+fn every_vector_length_for_every_row() {
     for seed in SEEDS {
         let questions = generate(seed);
         for vl in VECTOR_LENGTHS.into_iter().chain(LENGTHS_NOT_ALLOWED) {
@@ -87,11 +93,11 @@ fn every_vector_length_for_every_form() {
             );
             let expected: &[u32] = if vl_is_allowed(vl) { &[0, 3] } else { &[1] };
             assert_eq!(of_words, expected.iter().copied().collect(), "{vl}");
-            for form in Form::ALL {
+            for row in Row::ALL {
                 let asked = encodes(&questions)
                     .into_iter()
-                    .any(|(s, f, _)| s == setting && f == form);
-                assert!(asked, "{vl} {form:?}");
+                    .any(|(s, form, fields)| s == setting && row_of(form, fields) == row);
+                assert!(asked, "{vl} {row:?}");
             }
         }
     }
@@ -101,13 +107,14 @@ fn every_vector_length_for_every_form() {
 fn refusals_compete_in_encode() {
     for seed in SEEDS {
         let questions = generate(seed);
-        for form in Form::ALL {
+        for row in Row::ALL {
             // A missing feature, with fields in range and not.
             let missing: HashSet<u32> = numbers(questions.iter().filter(|question| {
-                matches!(question, Question::Encode { form: asked, .. } if *asked == form)
+                matches!(question, Question::Encode { form, fields, .. }
+                    if row_of(*form, *fields) == row)
                     && question.setting().features == 0
             }));
-            assert_eq!(missing, HashSet::from([3, 9]), "{form:?}");
+            assert_eq!(missing, HashSet::from([3, 9]), "{row:?}");
         }
     }
 }
@@ -129,51 +136,51 @@ fn printed_words_under_full_and_reduced_features() {
 fn every_value_of_every_word_field() {
     for seed in SEEDS {
         let words: Vec<u32> = decodes(&generate(seed)).iter().map(|&(_, w)| w).collect();
-        for form in Form::ALL {
-            for &mask in field_masks(form) {
+        for row in Row::ALL {
+            for &mask in field_masks(row) {
                 for value in 0..1 << mask.count_ones() {
                     let place = spread(value, mask);
                     let asked = words
                         .iter()
-                        .any(|&w| form_by_fixed_bits(w) == Some(form) && w & mask == place);
-                    assert!(asked, "{form:?} {mask:08x} {value}");
+                        .any(|&w| row_by_fixed_bits(w) == Some(row) && w & mask == place);
+                    assert!(asked, "{row:?} {mask:08x} {value}");
                 }
             }
-            let (mask, values) = failing_conditions(form);
+            let (mask, values) = failing_conditions(row);
             for &value in values {
                 let count = words
                     .iter()
-                    .filter(|&&w| form_by_fixed_bits(w) == Some(form) && w & mask == value)
+                    .filter(|&&w| row_by_fixed_bits(w) == Some(row) && w & mask == value)
                     .count();
-                assert!(count >= 5, "{form:?} {value:08x}");
+                assert!(count >= 5, "{row:?} {value:08x}");
             }
         }
     }
 }
 
 #[test]
-fn every_bit_of_a_word_of_every_form() {
+fn every_bit_of_a_word_of_every_row() {
     for seed in SEEDS {
         let words: HashSet<u32> = decodes(&generate(seed)).iter().map(|&(_, w)| w).collect();
-        for form in Form::ALL {
+        for row in Row::ALL {
             let found = words.iter().any(|&word| {
-                decode(FULL, word).map(|i| i.form()) == Ok(form)
+                decode(FULL, word).map(|i| i.row()) == Ok(row)
                     && (0..32).all(|bit| words.contains(&(word ^ (1 << bit))))
             });
-            assert!(found, "{form:?}");
+            assert!(found, "{row:?}");
             // Words with just two fixed bits wrong.
-            let layout = layout_of(form);
+            let layout = layout_of(row);
             let two_wrong = words
                 .iter()
                 .filter(|&&word| ((word ^ layout.value) & layout.mask).count_ones() == 2)
                 .count();
-            assert!(two_wrong >= 10, "{form:?}");
+            assert!(two_wrong >= 10, "{row:?}");
         }
     }
 }
 
-/// Document 01's ranges by hand: for each field values at the ends of its
-/// range and outside it. Each must be asked with everything else in order.
+/// Document 01's ranges, and those of PEXT's portions, by hand: for each field
+/// values at the ends of its range and outside it. Each must be asked with everything else in order.
 #[test]
 fn ends_of_every_field() {
     use Form::*;
@@ -186,22 +193,31 @@ fn ends_of_every_field() {
     let vector: (&[u32], &[u32]) = (&[0, 31], &[32, 33, 256, 65536]);
     let counter: (&[u32], &[u32]) = (&[8, 15], &[0, 7, 16, 264, 65544]);
     let i1: (&[u32], &[u32]) = (&[0, 1], &[2, 256, 257, 65537]);
-    // form, place, values in range, values outside, the size just before it
-    type Row<'a> = (Form, usize, (&'a [u32], &'a [u32]), Option<u32>);
-    let rows: Vec<Row> = vec![
-        (Pext1, 0, element_sizes, None),
-        (Pext1, 1, (&[0, 1, 2, 3], &[4, 256, 65536]), None),
-        (Pext1, 2, counter, None),
-        (Pext1, 3, predicate, None),
-        (Pext2, 0, element_sizes, None),
-        (Pext2, 1, i1, None),
-        (Pext2, 2, counter, None),
-        (Pext2, 3, predicate, None),
+    // form, place, values in range, values outside, the field its range hangs
+    // on, by place and value
+    type Range<'a> = (Form, usize, (&'a [u32], &'a [u32]), Option<(usize, u32)>);
+    let ranges: Vec<Range> = vec![
+        (Pext, 0, element_sizes, None),
+        (Pext, 1, (&[0, 1, 2, 3], &[4, 5, 256, 65536]), Some((2, 1))),
+        (
+            Pext,
+            1,
+            (&[0, 2], &[1, 3, 4, 5, 6, 256, 65536]),
+            Some((2, 2)),
+        ),
+        (
+            Pext,
+            2,
+            (&[1, 2], &[0, 3, 4, 256, 257, 258, 65537, 65538]),
+            None,
+        ),
+        (Pext, 3, counter, None),
+        (Pext, 4, predicate, None),
         (Psel, 0, element_sizes, None),
-        (Psel, 1, (&[0, 15], &[16, 17, 256, 65536]), Some(8)),
-        (Psel, 1, (&[0, 7], &[8, 9, 256, 65536]), Some(16)),
-        (Psel, 1, (&[0, 3], &[4, 5, 256, 65536]), Some(32)),
-        (Psel, 1, (&[0, 1], &[2, 3, 256, 65536]), Some(64)),
+        (Psel, 1, (&[0, 15], &[16, 17, 256, 65536]), Some((0, 8))),
+        (Psel, 1, (&[0, 7], &[8, 9, 256, 65536]), Some((0, 16))),
+        (Psel, 1, (&[0, 3], &[4, 5, 256, 65536]), Some((0, 32))),
+        (Psel, 1, (&[0, 1], &[2, 3, 256, 65536]), Some((0, 64))),
         (Psel, 2, (&[12, 13, 15], &[0, 11, 16, 268, 65548]), None),
         (Psel, 3, predicate, None),
         (Psel, 4, predicate, None),
@@ -236,15 +252,25 @@ fn ends_of_every_field() {
             (&[8, 16, 32], &[0, 4, 7, 9, 64, 264, 65552]),
             None,
         ),
-        (Narrow, 2, (&[1, 8], &[0, 9, 16, 264, 65544]), Some(8)),
-        (Narrow, 2, (&[1, 16], &[0, 17, 32, 272, 65552]), Some(16)),
-        (Narrow, 2, (&[1, 32], &[0, 33, 64, 288, 65568]), Some(32)),
+        (Narrow, 2, (&[1, 8], &[0, 9, 16, 264, 65544]), Some((1, 8))),
+        (
+            Narrow,
+            2,
+            (&[1, 16], &[0, 17, 32, 272, 65552]),
+            Some((1, 16)),
+        ),
+        (
+            Narrow,
+            2,
+            (&[1, 32], &[0, 33, 64, 288, 65568]),
+            Some((1, 32)),
+        ),
         (Narrow, 3, vector, None),
         (Narrow, 4, vector, None),
     ];
     for seed in SEEDS {
         let questions = generate(seed);
-        for &(form, place, (inside, outside), size) in &rows {
+        for &(form, place, (inside, outside), other) in &ranges {
             let asked = |value: u32| -> HashSet<u32> {
                 numbers(questions.iter().filter(|question| {
                     matches!(question, Question::Encode { form: f, fields, setting }
@@ -252,7 +278,7 @@ fn ends_of_every_field() {
                             && fields[place] == value
                             && setting.features == 31
                             && vl_is_allowed(setting.vl)
-                            && size.is_none_or(|size| fields[place - 1] == size))
+                            && other.is_none_or(|(place, value)| fields[place] == value))
                 }))
             };
             for &value in inside {
@@ -275,7 +301,7 @@ fn every_narrowing_word() {
         let mut undefined = HashSet::new();
         for (setting, word) in decodes(&questions) {
             let bits = word >> 10 & 15;
-            if setting.features != 31 || form_by_fixed_bits(word) != Some(Form::Narrow) {
+            if setting.features != 31 || row_by_fixed_bits(word) != Some(Row::Narrow) {
                 continue;
             }
             match decode(setting, word) {
@@ -326,7 +352,7 @@ fn psel_under_every_feature_it_hangs_on() {
             let mut read = HashSet::new();
             let mut without_size = HashSet::new();
             for (setting, word) in decodes(&questions) {
-                if !here(setting) || form_by_fixed_bits(word) != Some(Form::Psel) {
+                if !here(setting) || row_by_fixed_bits(word) != Some(Row::Psel) {
                     continue;
                 }
                 let answer = Question::Decode { setting, word }.answer();
@@ -359,27 +385,62 @@ fn psel_under_every_feature_it_hangs_on() {
     }
 }
 
-/// Lists of the form that UQRSHRNB had alone: 1 or 9 and nothing else, also
-/// where no word of the family is defined.
+/// Whether a list of a retired form was a word: of PEXT1, PEXT2 or UQRSHRNB.
+fn was_a_word(form: u32, [size, second, third, fourth, fifth, sixth]: [u32; 6]) -> bool {
+    let pext = [8, 16, 32, 64].contains(&size) && (8..16).contains(&third) && fourth < 16;
+    let uqrshrnb = [8, 16, 32].contains(&size) && third < 32 && fourth < 32;
+    let fields = match form {
+        0 => pext && second < 4,
+        1 => pext && second < 2,
+        _ => uqrshrnb && (1..=size).contains(&second),
+    };
+    fields && [fifth, sixth] == [0, 0]
+}
+
+/// Lists of the forms that PEXT1 and PEXT2 had apart and UQRSHRNB alone: 1 or 9
+/// and nothing else, also where no word of the form's is defined. Among them
+/// are lists that were words, with every immediate, and lists that are PEXT's.
 #[test]
-fn the_retired_form() {
+fn the_retired_forms() {
     for seed in SEEDS {
-        let mut answers = HashSet::new();
-        let mut old_words = HashSet::new();
-        for question in generate(seed) {
-            let Question::EncodeRetired { setting, fields } = question else {
-                continue;
-            };
-            let number = if setting.is_allowed() { 9 } else { 1 };
-            assert_eq!(question.answer(), [number, 0, 0, 0, 0, 0, 0, 0]);
-            answers.insert((number, setting.features == 0));
-            let [size, shift, zn, zd, ..] = fields;
-            if [8, 16, 32].contains(&size) && (1..=size).contains(&shift) && zn.max(zd) < 32 {
-                old_words.insert((size, shift));
+        let questions = generate(seed);
+        for (retired, old_count) in RETIRED_FORMS.into_iter().zip([16, 8, 56]) {
+            let mut answers = HashSet::new();
+            let mut old_words = HashSet::new();
+            let mut new_words = HashSet::new();
+            for question in &questions {
+                let &Question::EncodeRetired {
+                    setting,
+                    form,
+                    fields,
+                } = question
+                else {
+                    continue;
+                };
+                if form != retired {
+                    continue;
+                }
+                let number = if setting.is_allowed() { 9 } else { 1 };
+                assert_eq!(question.answer(), [number, 0, 0, 0, 0, 0, 0, 0]);
+                let was = was_a_word(form, fields);
+                let is = in_range(Instruction::from_fields(Form::Pext, fields));
+                let features = setting.features;
+                answers.insert((number, was, is, features == 0));
+                if features == 31 && number == 9 {
+                    let [a, b, c, ..] = fields;
+                    old_words.extend(was.then_some((a, b)));
+                    new_words.extend(is.then_some((a, b, c)));
+                }
             }
+            for (was, is) in [(true, false), (false, true)] {
+                for (number, no_feature) in [(1, false), (9, false), (9, true)] {
+                    let answer = (number, was, is, no_feature);
+                    assert!(answers.contains(&answer), "{retired} {answer:?}");
+                }
+            }
+            assert_eq!(old_words.len(), old_count, "{retired}");
+            assert_eq!(new_words.len(), 4 * (4 + 2), "{retired}");
         }
-        assert_eq!(answers, HashSet::from([(1, false), (9, false), (9, true)]));
-        assert_eq!(old_words.len(), 56);
     }
 }
 

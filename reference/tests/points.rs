@@ -1,5 +1,5 @@
 //! Document 01's points on the board, as far as decoding goes, with document
-//! 02's requests 1 and 2. What is expected here is taken from the documents,
+//! 02's requests 1, 2 and 8. What is expected here is taken from the documents,
 //! not from the program.
 
 use reference::decode::decode;
@@ -126,15 +126,48 @@ fn fields_of_psel() {
     assert_eq!(psel.fields(), [8, 1, 14, 9, 6, 3]);
 }
 
+/// Request 8's fields in the words of both layouts: the size is bits 23 and
+/// 22, the portions bits 10 to 8, PNn bits 7 to 5 and Pd bits 3 to 0.
+#[test]
+fn fields_of_pext() {
+    for (first, portions, bits) in [
+        (0, 1, 0b000),
+        (1, 1, 0b001),
+        (2, 1, 0b010),
+        (3, 1, 0b011),
+        (0, 2, 0b100),
+        (2, 2, 0b101),
+    ] {
+        let pext = Instruction::Pext {
+            size: 32,
+            first,
+            portions,
+            counter: 13,
+            pd: 6,
+        };
+        let word = 0x2520_7010 | 2 << 22 | bits << 8 | 5 << 5 | 6;
+        assert_eq!(decode(FULL, word), Ok(pext));
+        assert_eq!(encode(FULL, pext), Ok(word));
+        assert_eq!(pext.fields(), [32, first, portions, 13, 6, 0]);
+    }
+    // Bits 10 and 9 set are neither layout.
+    for word in [0x2520_7610, 0x2520_7710] {
+        assert_eq!(decode(FULL, word), Err(Refusal::Undefined));
+    }
+}
+
 #[test]
 fn points_11_and_12() {
-    let pair = Instruction::Pext2 {
+    let pair = Instruction::Pext {
         size: 8,
-        i1: 0,
+        first: 0,
+        portions: 2,
         counter: 8,
         pd: 15,
     };
     assert_eq!(decode(FULL, 0x2520_741f), Ok(pair));
+    assert_eq!(encode(FULL, pair), Ok(0x2520_741f));
+    assert_eq!(pair.name(), "PEXT2");
     // i1 is kept although it has no effect at this size.
     let lookup = Instruction::Luti4c {
         size: 16,
@@ -148,20 +181,23 @@ fn points_11_and_12() {
 
 #[test]
 fn words_of_the_listing() {
-    let pext = Instruction::Pext1 {
+    let pext = Instruction::Pext {
         size: 8,
-        portion: 0,
+        first: 0,
+        portions: 1,
         counter: 8,
         pd: 0,
     };
     assert_eq!(decode(FULL, 0x2520_7010), Ok(pext));
+    assert_eq!(encode(FULL, pext), Ok(0x2520_7010));
+    assert_eq!(pext.name(), "PEXT1");
     // PSEL's fixed bits, but tszh:tszl is 0000.
     assert_eq!(decode(FULL, 0x2520_4000), Err(Refusal::Undefined));
 }
 
-/// A word of each form, and the allowed feature numbers it is defined under.
+/// A word of each row, and the allowed feature numbers it is defined under.
 #[test]
-fn features_of_each_form() {
+fn features_of_each_row() {
     let narrowing: &[u32] = &[1, 3, 4, 5, 7, 12, 13, 15, 28, 29, 31];
     let family = (0..16).map(|k| (0x4528_0000 + k * 0x400, narrowing));
     let others: [(u32, &[u32]); 5] = [

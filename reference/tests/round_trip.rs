@@ -5,37 +5,37 @@ use std::collections::HashSet;
 use reference::decode::decode;
 use reference::encode::{encode, in_range};
 use reference::instruction::{Form, Instruction};
-use reference::layout::layout_of;
+use reference::layout::{Row, layout_of};
 use reference::random::Random;
 use reference::refusal::Refusal;
 use reference::samples::{fields_in_range, spread};
 use reference::setting::FULL;
 
-/// How many words each form has: the product of its fields' values.
-fn word_count(form: Form) -> usize {
-    match form {
-        Form::Pext1 => 4 * 4 * 8 * 16,
-        Form::Pext2 => 4 * 2 * 8 * 16,
-        Form::Psel => (16 + 8 + 4 + 2) * 4 * 16 * 16 * 16,
-        Form::Luti4c => 2 * 2 * 32 * 8,
-        Form::Luti4s => 2 * 32 * 8,
-        Form::Narrow => 16 * (8 + 16 + 32) * 32 * 32,
+/// How many words each row has: the product of its fields' values.
+fn word_count(row: Row) -> usize {
+    match row {
+        Row::Pext1 => 4 * 4 * 8 * 16,
+        Row::Pext2 => 4 * 2 * 8 * 16,
+        Row::Psel => (16 + 8 + 4 + 2) * 4 * 16 * 16 * 16,
+        Row::Luti4c => 2 * 2 * 32 * 8,
+        Row::Luti4s => 2 * 32 * 8,
+        Row::Narrow => 16 * (8 + 16 + 32) * 32 * 32,
     }
 }
 
-/// Every word with the form's fixed bits: each is refused or comes back from
+/// Every word with the row's fixed bits: each is refused or comes back from
 /// encode as it was, no two as one instruction, and as many as there must be.
 #[test]
 fn every_word_of_every_layout() {
-    for form in Form::ALL {
-        let layout = layout_of(form);
+    for row in Row::ALL {
+        let layout = layout_of(row);
         let free = !layout.mask;
         let mut instructions = HashSet::new();
         for value in 0..1 << free.count_ones() {
             let word = layout.value | spread(value, free);
             match decode(FULL, word) {
                 Ok(instruction) => {
-                    assert_eq!(instruction.form(), form);
+                    assert_eq!(instruction.row(), row);
                     assert!(in_range(instruction));
                     assert_eq!(encode(FULL, instruction), Ok(word), "{word:08x}");
                     assert!(instructions.insert(instruction));
@@ -43,7 +43,7 @@ fn every_word_of_every_layout() {
                 Err(refusal) => assert_eq!(refusal, Refusal::Undefined),
             }
         }
-        assert_eq!(instructions.len(), word_count(form), "{form:?}");
+        assert_eq!(instructions.len(), word_count(row), "{row:?}");
     }
 }
 
@@ -66,8 +66,9 @@ fn words_by_stride() {
 fn fields_come_back() {
     let mut random = Random::new(2024);
     for _ in 0..20_000 {
-        for form in Form::ALL {
-            let instruction = Instruction::from_fields(form, fields_in_range(&mut random, form));
+        for row in Row::ALL {
+            let fields = fields_in_range(&mut random, row);
+            let instruction = Instruction::from_fields(row.form(), fields);
             let word = encode(FULL, instruction).unwrap();
             assert_eq!(decode(FULL, word), Ok(instruction));
         }
@@ -75,18 +76,18 @@ fn fields_come_back() {
 }
 
 /// Small and wild fields: encode never panics, and what it accepts decodes to
-/// just these fields. The number accepted is that of the form's words, so
+/// just these fields. The number accepted is that of the row's words, so
 /// nothing is refused that should not be.
 #[test]
 fn all_small_fields() {
-    for form in [Form::Pext1, Form::Pext2, Form::Luti4c, Form::Luti4s] {
+    for row in [Row::Luti4c, Row::Luti4s] {
         let mut accepted = 0;
         for size in 0..=65 {
             for second in 0..=33 {
                 for third in 0..=33 {
                     for fourth in 0..=33 {
                         let fields = [size, second, third, fourth, 0, 0];
-                        let instruction = Instruction::from_fields(form, fields);
+                        let instruction = Instruction::from_fields(row.form(), fields);
                         if let Ok(word) = encode(FULL, instruction) {
                             assert_eq!(decode(FULL, word), Ok(instruction));
                             accepted += 1;
@@ -95,8 +96,30 @@ fn all_small_fields() {
                 }
             }
         }
-        assert_eq!(accepted, word_count(form), "{form:?}");
+        assert_eq!(accepted, word_count(row), "{row:?}");
     }
+}
+
+#[test]
+fn all_small_fields_of_pext() {
+    let mut accepted = 0;
+    for size in 0..=65 {
+        for first in 0..=9 {
+            for portions in 0..=9 {
+                for counter in 0..=17 {
+                    for pd in 0..=17 {
+                        let fields = [size, first, portions, counter, pd, 0];
+                        let instruction = Instruction::from_fields(Form::Pext, fields);
+                        if let Ok(word) = encode(FULL, instruction) {
+                            assert_eq!(decode(FULL, word), Ok(instruction));
+                            accepted += 1;
+                        }
+                    }
+                }
+            }
+        }
+    }
+    assert_eq!(accepted, word_count(Row::Pext1) + word_count(Row::Pext2));
 }
 
 #[test]
@@ -163,15 +186,15 @@ fn wild_fields_are_refused_and_nothing_panics() {
         256 + 16,
     ];
     let mut random = Random::new(9);
-    for form in Form::ALL {
+    for row in Row::ALL {
         for _ in 0..2000 {
-            let mut fields = fields_in_range(&mut random, form);
-            for field in fields.iter_mut().take(form.field_count()) {
+            let mut fields = fields_in_range(&mut random, row);
+            for field in fields.iter_mut().take(row.form().field_count()) {
                 if random.coin() {
                     *field = random.pick(&wild);
                 }
             }
-            let instruction = Instruction::from_fields(form, fields);
+            let instruction = Instruction::from_fields(row.form(), fields);
             let is_wild = fields.iter().any(|field| wild.contains(field));
             match encode(FULL, instruction) {
                 Ok(_) => assert!(!is_wild),

@@ -5,6 +5,7 @@ use std::collections::{HashMap, HashSet};
 
 use reference::decode::decode;
 use reference::instruction::{Form, Instruction};
+use reference::layout::Row;
 use reference::setting::{FULL, VECTOR_LENGTHS, vl_is_allowed};
 use reference::step_question::StepQuestion;
 use reference::step_questions::generate;
@@ -44,11 +45,11 @@ fn every_size_length_and_immediate() {
         for vl in VECTOR_LENGTHS {
             let here = |form, with: &dyn Fn([u32; 6]) -> bool| any(&asked, form, Some(vl), with);
             for size in [8, 16, 32, 64] {
-                for portion in 0..4 {
-                    assert!(here(Form::Pext1, &|f| f[..2] == [size, portion]));
+                for first in 0..4 {
+                    assert!(here(Form::Pext, &|f| f[..3] == [size, first, 1]));
                 }
-                for i1 in 0..2 {
-                    assert!(here(Form::Pext2, &|f| f[..2] == [size, i1]));
+                for first in [0, 2] {
+                    assert!(here(Form::Pext, &|f| f[..3] == [size, first, 2]));
                 }
                 for offset in 0..128 / size {
                     assert!(here(Form::Psel, &|f| f[..2] == [size, offset]));
@@ -83,13 +84,19 @@ fn overlapping_registers() {
         for vl in VECTOR_LENGTHS {
             let here = |form, with: &dyn Fn([u32; 6]) -> bool| any(&asked, form, Some(vl), with);
             for counter in 8..16 {
-                assert!(here(Form::Pext1, &|f| f[2..4] == [counter, counter]));
-                assert!(here(Form::Pext2, &|f| f[2..4] == [counter, counter]));
-                assert!(here(Form::Pext2, &|f| f[2..4] == [counter, counter - 1]));
+                for wanted in [
+                    [1, counter, counter],
+                    [2, counter, counter],
+                    [2, counter, counter - 1],
+                ] {
+                    assert!(here(Form::Pext, &|f| f[2..5] == wanted));
+                }
             }
             for size in [8, 16, 32, 64] {
-                assert!(here(Form::Pext2, &|f| f[0] == size && f[3] == 14));
-                assert!(here(Form::Pext2, &|f| f[0] == size && f[3] == 15));
+                for pd in [14, 15] {
+                    let wanted = |f: [u32; 6]| f[0] == size && f[2] == 2 && f[4] == pd;
+                    assert!(here(Form::Pext, &wanted));
+                }
                 let psel = |with: &dyn Fn(u32, u32, u32) -> bool| {
                     here(Form::Psel, &|f| f[0] == size && with(f[3], f[4], f[5]))
                 };
@@ -121,9 +128,9 @@ fn overlapping_registers() {
 /// The counter each PEXT question reads, with the bits above it and VL.
 fn counters(done: &[(StepQuestion, Instruction)]) -> Vec<(u32, u32, u16, bool)> {
     done.iter()
-        .filter(|(_, found)| matches!(found.form(), Form::Pext1 | Form::Pext2))
+        .filter(|(_, found)| found.form() == Form::Pext)
         .map(|(question, found)| {
-            let slot = 32 * found.fields()[2] as usize;
+            let slot = 32 * found.fields()[3] as usize;
             let p = question.start.machine().p;
             let counter = u16::from_le_bytes([p[slot], p[slot + 1]]);
             let above = p[slot + 2..slot + 32].iter().any(|&byte| byte != 0);
@@ -299,31 +306,31 @@ fn index_sums_around_the_wrap() {
 fn every_feature_number_and_length() {
     for seed in SEEDS {
         let questions = generate(seed);
-        for form in Form::ALL {
-            let of_form: Vec<&StepQuestion> = questions
+        for row in Row::ALL {
+            let of_row: Vec<&StepQuestion> = questions
                 .iter()
-                .filter(|q| decode(FULL, q.word).map(|i| i.form()) == Ok(form))
+                .filter(|q| decode(FULL, q.word).map(|i| i.row()) == Ok(row))
                 .collect();
             for features in (0..32).chain(FEATURES_ABOVE) {
-                assert!(of_form.iter().any(|q| q.start.setting.features == features
+                assert!(of_row.iter().any(|q| q.start.setting.features == features
                     && vl_is_allowed(q.start.setting.vl)
                     && q.start.flags.number() == 7));
             }
             for flags in 0..8 {
                 for features in [3, 12, 28, 31] {
-                    assert!(of_form.iter().any(|q| q.start.setting.features == features
+                    assert!(of_row.iter().any(|q| q.start.setting.features == features
                         && q.start.flags.number() == flags
                         && vl_is_allowed(q.start.setting.vl)));
                 }
             }
             for pc in [0, 1, u64::MAX - 4, u64::MAX - 3, u64::MAX - 1, u64::MAX] {
-                let asked = of_form
+                let asked = of_row
                     .iter()
                     .any(|q| q.start.pc == pc && q.answer()[0] == 0);
                 assert!(asked, "{pc:x}");
             }
             for (z, p, zt) in WRONG_LENGTHS {
-                assert!(of_form.iter().any(|q| {
+                assert!(of_row.iter().any(|q| {
                     let c = q.start.contents;
                     (c.z_length, c.p_length, c.zt_length) == (z, p, zt) && q.answer()[0] == 2
                 }));

@@ -1,7 +1,7 @@
 //! What holds of every step, whatever the word computes.
 
 use reference::decode::decode;
-use reference::instruction::Form;
+use reference::layout::Row;
 use reference::machine::Machine;
 use reference::random::Random;
 use reference::samples::matching_word;
@@ -43,17 +43,17 @@ fn copy_register(from: &Machine, to: &mut Machine, register: Register, vl: u32) 
     file_of(to, register)[part].copy_from_slice(&bytes);
 }
 
-/// Words of every form at every length, each on its own machine.
+/// Words of every row at every length, each on its own machine.
 fn each_word(seed: u64, count: usize, mut check: impl FnMut(Setting, u32, Touch, &mut Random)) {
     let mut random = Random::new(seed);
-    for form in Form::ALL {
+    for row in Row::ALL {
         for vl in VECTOR_LENGTHS {
             let setting = Setting {
                 vl,
                 features: ALL_FEATURES,
             };
             for _ in 0..count {
-                let word = matching_word(&mut random, form);
+                let word = matching_word(&mut random, row);
                 let touched = touch(decode(setting, word).unwrap());
                 check(setting, word, touched, &mut random);
             }
@@ -135,20 +135,20 @@ fn a_step_depends_only_on_its_reads() {
     });
 }
 
-/// Nothing is in the table's middle column for no reason: for every form,
+/// Nothing is in the table's middle column for no reason: for every row,
 /// each of its reads makes a difference on some machine.
 #[test]
 fn every_read_makes_a_difference() {
-    for form in Form::ALL {
-        let reads = match form {
-            Form::Pext1 | Form::Pext2 => 1,
+    for row in Row::ALL {
+        let reads = match row {
+            Row::Pext1 | Row::Pext2 => 1,
             // The second only of T words.
-            Form::Luti4c | Form::Luti4s | Form::Narrow => 2,
-            Form::Psel => 3,
+            Row::Luti4c | Row::Luti4s | Row::Narrow => 2,
+            Row::Psel => 3,
         };
         let mut matters = vec![false; reads];
         each_word(13, 12, |setting, word, touched, random| {
-            if decode(setting, word).unwrap().form() != form {
+            if decode(setting, word).unwrap().row() != row {
                 return;
             }
             let before = any_machine(random);
@@ -165,6 +165,6 @@ fn every_read_makes_a_difference() {
                 }
             }
         });
-        assert!(matters.iter().all(|&matter| matter), "{form:?} {matters:?}");
+        assert!(matters.iter().all(|&matter| matter), "{row:?} {matters:?}");
     }
 }

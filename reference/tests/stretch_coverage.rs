@@ -9,6 +9,7 @@ use masks::conflict;
 use reference::cases::{self, Case};
 use reference::decode::decode;
 use reference::instruction::{Form, Instruction};
+use reference::layout::Row;
 use reference::permission_question::{PermissionAnswer, PermissionQuestion};
 use reference::permission_questions;
 use reference::random::Random;
@@ -194,21 +195,20 @@ fn refusals_everywhere() {
                 .any(|(question, answer)| with(question, *answer))
         };
         for number in 3..=6 {
-            for form in Form::ALL {
+            for row in Row::ALL {
                 let refused = |question: &RunQuestion, answer: RunAnswer| {
                     let word = question.words.get(answer[1] as usize);
                     answer[0] == number
-                        && word
-                            .is_some_and(|&word| decode(FULL, word).map(|i| i.form()) == Ok(form))
+                        && word.is_some_and(|&word| decode(FULL, word).map(|i| i.row()) == Ok(row))
                 };
                 let possible = match number {
-                    4 => !matches!(form, Form::Luti4c | Form::Luti4s),
-                    5 => !matches!(form, Form::Psel | Form::Narrow),
-                    6 => matches!(form, Form::Luti4c | Form::Luti4s),
+                    4 => !matches!(row, Row::Luti4c | Row::Luti4s),
+                    5 => !matches!(row, Row::Psel | Row::Narrow),
+                    6 => matches!(row, Row::Luti4c | Row::Luti4s),
                     _ => true,
                 };
                 // Where the narrowing family has no feature, no other word has one.
-                let after_others = possible && (number, form) != (3, Form::Narrow);
+                let after_others = possible && (number, row) != (3, Row::Narrow);
                 let last = |question: &RunQuestion| question.words.len() as u32 - 1;
                 assert_eq!(any(&|q, a| refused(q, a) && a[1] == 0), possible);
                 let within = |q: &RunQuestion, a: RunAnswer| a[1] > 0 && a[1] < last(q);

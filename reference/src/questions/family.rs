@@ -1,11 +1,11 @@
-//! The narrowing family, word by word, and the form it has replaced.
+//! The narrowing family, word by word.
 
 use super::List;
 use crate::instruction::Form;
-use crate::question::Question;
+use crate::layout::Row;
 use crate::samples::{fields_in_range, narrow_word};
-use crate::setting::{ALL_FEATURES, FULL, Setting, VECTOR_LENGTHS, features_are_allowed};
-use crate::values::{FEATURES_ABOVE, FIELD_VALUES, LENGTHS_NOT_ALLOWED, NARROW_WORDS};
+use crate::setting::{ALL_FEATURES, FULL, Setting, features_are_allowed};
+use crate::values::NARROW_WORDS;
 
 impl List {
     pub(super) fn family(&mut self) {
@@ -27,7 +27,7 @@ impl List {
         for bits in 0..16 {
             for size in [8, 16, 32] {
                 for shift in 1..=size {
-                    let [.., zn, zd, _] = fields_in_range(&mut self.random, Form::Narrow);
+                    let [.., zn, zd, _] = fields_in_range(&mut self.random, Row::Narrow);
                     let setting = self.all_features();
                     self.decode(setting, narrow_word(bits, 2 * size - shift, zn, zd));
                     self.encode(setting, Form::Narrow, [bits, size, shift, zn, zd, 0]);
@@ -39,7 +39,7 @@ impl List {
     fn every_allowed_feature_number(&mut self) {
         for bits in 0..16 {
             for features in (0..=ALL_FEATURES).filter(|&n| features_are_allowed(n)) {
-                let mut fields = fields_in_range(&mut self.random, Form::Narrow);
+                let mut fields = fields_in_range(&mut self.random, Row::Narrow);
                 fields[0] = bits;
                 let [_, size, shift, zn, zd, _] = fields;
                 let vl = self.any_length();
@@ -62,7 +62,7 @@ impl List {
             }
             for size in [8, 16, 32] {
                 for shift in [0, size + 1] {
-                    let mut fields = fields_in_range(&mut self.random, Form::Narrow);
+                    let mut fields = fields_in_range(&mut self.random, Row::Narrow);
                     fields[..3].copy_from_slice(&[bits, size, shift]);
                     let setting = self.all_features();
                     self.encode(setting, Form::Narrow, fields);
@@ -78,7 +78,7 @@ impl List {
 
     /// The shift is at most 8, so that it is in range whatever the size is.
     fn with_field(&mut self, bits: u32, place: usize, value: u32) {
-        let mut fields = fields_in_range(&mut self.random, Form::Narrow);
+        let mut fields = fields_in_range(&mut self.random, Row::Narrow);
         fields[0] = bits;
         fields[2] = 1 + self.random.below(8);
         fields[place] = value;
@@ -96,43 +96,5 @@ impl List {
                 self.decode(setting, narrow_word(bits, imm3, zn, zd));
             }
         }
-    }
-
-    /// Lists of the retired form: those that were words, those that were not,
-    /// those of the family, and anything; under every setting.
-    pub(super) fn retired(&mut self) {
-        let old = [8, 3, 1, 2, 0, 0];
-        for features in (0..=ALL_FEATURES).chain(FEATURES_ABOVE) {
-            self.ask_retired(Setting { vl: 128, features }, old);
-        }
-        for vl in VECTOR_LENGTHS.into_iter().chain(LENGTHS_NOT_ALLOWED) {
-            let features = ALL_FEATURES;
-            self.ask_retired(Setting { vl, features }, old);
-        }
-        for size in [8, 16, 32] {
-            for shift in 0..=size + 1 {
-                let (zn, zd) = (self.random.below(32), self.random.below(32));
-                let setting = self.all_features();
-                self.ask_retired(setting, [size, shift, zn, zd, 0, 0]);
-            }
-        }
-        for bits in 0..16 {
-            let mut fields = fields_in_range(&mut self.random, Form::Narrow);
-            fields[0] = bits;
-            let setting = self.all_features();
-            self.ask_retired(setting, fields);
-        }
-        for _ in 0..20 {
-            let setting = self.all_features();
-            let fields = [(); 6].map(|()| self.random.pick(&FIELD_VALUES));
-            self.ask_retired(setting, fields);
-        }
-        for fields in [[0; 6], [u32::MAX; 6]] {
-            self.ask_retired(FULL, fields);
-        }
-    }
-
-    fn ask_retired(&mut self, setting: Setting, fields: [u32; 6]) {
-        self.add(Question::EncodeRetired { setting, fields });
     }
 }

@@ -2,6 +2,7 @@
 
 use super::List;
 use crate::instruction::Form;
+use crate::layout::Row;
 use crate::samples::{fields_in_range, psel_word};
 use crate::setting::Setting;
 use crate::values::FEATURES_FOR_PSEL;
@@ -18,7 +19,7 @@ impl List {
     fn psel_words(&mut self, features: u32) {
         for imm in 0..32 {
             let vl = self.any_length();
-            let [_, _, index, pn, pm, pd] = fields_in_range(&mut self.random, Form::Psel);
+            let [_, _, index, pn, pm, pd] = fields_in_range(&mut self.random, Row::Psel);
             let word = psel_word(imm, index - 12, pn, pm, pd);
             self.decode(Setting { vl, features }, word);
         }
@@ -30,7 +31,7 @@ impl List {
         for size in [8, 16, 32, 64] {
             for offset in [0, 128 / size - 1, 128 / size] {
                 let vl = self.any_length();
-                let mut fields = fields_in_range(&mut self.random, Form::Psel);
+                let mut fields = fields_in_range(&mut self.random, Row::Psel);
                 fields[..2].copy_from_slice(&[size, offset]);
                 self.encode(Setting { vl, features }, Form::Psel, fields);
             }

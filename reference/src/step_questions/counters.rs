@@ -2,6 +2,7 @@
 
 use super::List;
 use crate::instruction::Form;
+use crate::layout::Row;
 use crate::setting::VECTOR_LENGTHS;
 use crate::values::NOTED_COUNTERS;
 
@@ -51,9 +52,9 @@ impl List {
                         };
                         let value = self.fill_ignored(vl, counter(z, count, inverted));
                         if turn % 2 == 0 {
-                            self.pext(vl, Form::Pext1, size, portion, value);
+                            self.pext(vl, Row::Pext1, size, portion, value);
                         } else {
-                            self.pext(vl, Form::Pext2, size, portion / 2, value);
+                            self.pext(vl, Row::Pext2, size, portion / 2 * 2, value);
                         }
                         turn += 1;
                     }
@@ -68,10 +69,10 @@ impl List {
     fn noted_counters(&mut self) {
         for vl in VECTOR_LENGTHS {
             for value in NOTED_COUNTERS {
-                for (form, portions) in [(Form::Pext1, 4), (Form::Pext2, 2)] {
+                for (row, portions) in [(Row::Pext1, 1), (Row::Pext2, 2)] {
                     let size = self.random.pick(&[8, 16, 32, 64]);
-                    let portion = self.random.below(portions);
-                    self.pext(vl, form, size, portion, value);
+                    let first = portions * self.random.below(4 / portions);
+                    self.pext(vl, row, size, first, value);
                 }
             }
         }
@@ -86,13 +87,8 @@ impl List {
                     let count = self.random.below(4);
                     let value = counter(z, count, inverted) | 1 << bit;
                     let size = self.random.pick(&[8, 16, 32, 64]);
-                    self.pext(
-                        vl,
-                        Form::Pext2,
-                        size,
-                        self.questions.count() as u32 % 2,
-                        value,
-                    );
+                    let first = 2 * (self.questions.count() as u32 % 2);
+                    self.pext(vl, Row::Pext2, size, first, value);
                 }
             }
         }
@@ -110,12 +106,12 @@ impl List {
         value | filling & ignored
     }
 
-    fn pext(&mut self, vl: u32, form: Form, size: u32, portion: u32, value: u16) {
-        let mut fields = self.fields(form);
+    fn pext(&mut self, vl: u32, row: Row, size: u32, first: u32, value: u16) {
+        let mut fields = self.fields(row);
         fields[0] = size;
-        fields[1] = portion;
-        let question = self.open_form(vl, form, fields);
-        self.add(question.with_predicate(fields[2], value));
+        fields[1] = first;
+        let question = self.open_form(vl, Form::Pext, fields);
+        self.add(question.with_predicate(fields[3], value));
     }
 }
 

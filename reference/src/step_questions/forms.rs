@@ -1,8 +1,9 @@
-//! Every form at every size, length and immediate; document 01's points; PC.
+//! Every row at every size, length and immediate; document 01's points; PC.
 
 use super::List;
 use super::psel::indexed_bit;
 use crate::instruction::Form;
+use crate::layout::Row;
 use crate::roles::word_of;
 use crate::samples;
 use crate::setting::VECTOR_LENGTHS;
@@ -40,7 +41,7 @@ impl List {
                 self.add(question.with_wide_element(0, 0, elements));
             }
         }
-        // PEXT1 of P8 to P0, at B and H, all portions.
+        // One portion of P8 to P0, at B and H, each in turn.
         for counter in [0x0007, 0x8001, 0x0001, 0x8000, 0x8021, 0x0081] {
             for vl in [128, 256] {
                 for portion in 0..4 {
@@ -69,23 +70,24 @@ impl List {
     /// PEXT at every length, size and portion, and from every counter
     /// register.
     fn every_portion(&mut self) {
-        for (form, portions) in [(Form::Pext1, 4), (Form::Pext2, 2)] {
-            for portion in 0..portions {
+        let portions: [(Row, &[u32]); 2] = [(Row::Pext1, &[0, 1, 2, 3]), (Row::Pext2, &[0, 2])];
+        for (row, firsts) in portions {
+            for &first in firsts {
                 for size in [8, 16, 32, 64] {
                     for vl in VECTOR_LENGTHS {
-                        let mut fields = self.fields(form);
+                        let mut fields = self.fields(row);
                         fields[0] = size;
-                        fields[1] = portion;
-                        let question = self.open_form(vl, form, fields);
+                        fields[1] = first;
+                        let question = self.open_form(vl, Form::Pext, fields);
                         self.add(question);
                     }
                 }
                 for counter in 8..16 {
                     let vl = self.any_length();
-                    let mut fields = self.fields(form);
-                    fields[1] = portion;
-                    fields[2] = counter;
-                    let question = self.open_form(vl, form, fields);
+                    let mut fields = self.fields(row);
+                    fields[1] = first;
+                    fields[3] = counter;
+                    let question = self.open_form(vl, Form::Pext, fields);
                     self.add(question);
                 }
             }
@@ -99,7 +101,7 @@ impl List {
         for size in [8, 16, 32, 64] {
             for offset in 0..128 / size {
                 for vl in VECTOR_LENGTHS {
-                    let mut fields = self.fields(Form::Psel);
+                    let mut fields = self.fields(Row::Psel);
                     fields[..2].copy_from_slice(&[size, offset]);
                     let question = self.open_form(vl, Form::Psel, fields);
                     self.add(question);
@@ -107,7 +109,7 @@ impl List {
                 let sums = [u32::MAX, u32::MAX - offset, 0u32.wrapping_sub(offset)];
                 for base in sums {
                     let vl = self.any_length();
-                    let mut fields = self.fields(Form::Psel);
+                    let mut fields = self.fields(Row::Psel);
                     fields[..2].copy_from_slice(&[size, offset]);
                     let mut question = self.open_form(vl, Form::Psel, fields);
                     question.start.w[fields[2] as usize - 12] = base;
@@ -119,7 +121,7 @@ impl List {
     }
 
     fn single_element(&mut self, size: u32, offset: u32) {
-        let mut fields = self.fields(Form::Psel);
+        let mut fields = self.fields(Row::Psel);
         let pm = self.register_apart(16, &[fields[3]]);
         fields[..2].copy_from_slice(&[size, offset]);
         fields[4] = pm;
@@ -168,19 +170,19 @@ impl List {
         }
     }
 
-    /// Every form at every noted PC, and the wrap once more with a word that
+    /// Every row at every noted PC, and the wrap once more with a word that
     /// is refused.
     fn every_pc(&mut self) {
-        for form in Form::ALL {
+        for row in Row::ALL {
             for pc in PCS_OF_NOTE {
                 let vl = self.any_length();
-                let fields = self.fields(form);
-                let mut question = self.open(vl, word_of(form, fields));
+                let fields = self.fields(row);
+                let mut question = self.open_form(vl, row.form(), fields);
                 question.start.pc = pc;
                 self.add(question);
             }
-            let fields = self.fields(form);
-            let mut question = self.open_form(128, form, fields);
+            let fields = self.fields(row);
+            let mut question = self.open_form(128, row.form(), fields);
             question.start.pc = 0xffff_ffff_ffff_fffc;
             question.start.contents.zt_length = 63;
             self.add(question);
@@ -189,10 +191,10 @@ impl List {
 
     /// Any fields at any length and any PC.
     fn any_steps(&mut self) {
-        for form in Form::ALL {
+        for row in Row::ALL {
             for _ in 0..16 {
                 let vl = self.any_length();
-                let word = samples::matching_word(&mut self.random, form);
+                let word = samples::matching_word(&mut self.random, row);
                 let mut question = self.open(vl, word);
                 question.start.pc = self.random.next_u64();
                 self.add(question);
@@ -204,7 +206,7 @@ impl List {
     /// anywhere; for PEXT of P15 and LUTI4 of Z31 at the greatest length,
     /// which read those bytes.
     fn overrides_at_the_end(&mut self) {
-        let pext = word_of(Form::Pext1, [8, 3, 15, 0, 0, 0]);
+        let pext = word_of(Form::Pext, [8, 3, 1, 15, 0, 0]);
         let lookup = word_of(Form::Luti4c, [16, 0, 31, 0, 0, 0]);
         let anywhere = self.random.below(8192);
         let places = [

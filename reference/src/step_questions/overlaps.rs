@@ -3,6 +3,7 @@
 use super::List;
 use super::psel::with_indexed;
 use crate::instruction::Form;
+use crate::layout::Row;
 use crate::setting::VECTOR_LENGTHS;
 
 impl List {
@@ -16,31 +17,31 @@ impl List {
         }
     }
 
-    /// Pd, or PEXT2's second destination, is the counter register.
+    /// Pd, or the second destination of two, is the counter register.
     fn counter_and_destination(&mut self, vl: u32) {
         for counter in 8..16 {
-            for (form, pd) in [
-                (Form::Pext1, counter),
-                (Form::Pext2, counter),
-                (Form::Pext2, counter - 1),
+            for (row, pd) in [
+                (Row::Pext1, counter),
+                (Row::Pext2, counter),
+                (Row::Pext2, counter - 1),
             ] {
-                let mut fields = self.fields(form);
-                fields[2] = counter;
-                fields[3] = pd;
-                let question = self.open_form(vl, form, fields);
+                let mut fields = self.fields(row);
+                fields[3] = counter;
+                fields[4] = pd;
+                let question = self.open_form(vl, Form::Pext, fields);
                 self.add(question);
             }
         }
     }
 
-    /// PEXT2 to P15 and P0, and to P14 and P15.
+    /// Two portions to P15 and P0, and to P14 and P15.
     fn pairs_at_the_wrap(&mut self, vl: u32) {
         for pd in [14, 15] {
-            for i1 in 0..2 {
+            for first in [0, 2] {
                 for size in [8, 16, 32, 64] {
                     let counter = 8 + self.random.below(8);
-                    let fields = [size, i1, counter, pd, 0, 0];
-                    let question = self.open_form(vl, Form::Pext2, fields);
+                    let fields = [size, first, 2, counter, pd, 0];
+                    let question = self.open_form(vl, Form::Pext, fields);
                     self.add(question);
                 }
             }
@@ -54,7 +55,7 @@ impl List {
             let a = self.random.below(16);
             let b = self.register_apart(16, &[a]);
             for registers in [[a, b, a], [b, a, a], [a, a, b], [a, a, a]] {
-                let mut fields = self.fields(Form::Psel);
+                let mut fields = self.fields(Row::Psel);
                 fields[0] = size;
                 fields[1] = self.random.below(128 / size);
                 fields[3..].copy_from_slice(&registers);

@@ -8,6 +8,7 @@
 use super::{List, flags};
 use crate::index_unit::element_index;
 use crate::instruction::Form;
+use crate::layout::Row;
 use crate::machine::P_SLOT_BYTES;
 use crate::setting::{VECTOR_LENGTHS, WITHOUT_SME};
 use crate::step_question::StepQuestion;
@@ -90,7 +91,7 @@ impl List {
 
     /// The fields of a PSEL of this size with three different registers.
     fn psel_apart(&mut self, size: u32) -> [u32; 6] {
-        let [_, _, index, pn, ..] = self.fields(Form::Psel);
+        let [_, _, index, pn, ..] = self.fields(Row::Psel);
         let offset = self.random.below(128 / size);
         let pm = self.register_apart(16, &[pn]);
         let pd = self.register_apart(16, &[pn, pm]);

@@ -3,6 +3,7 @@
 
 use super::{List, flags};
 use crate::instruction::Form;
+use crate::layout::Row;
 use crate::samples;
 use crate::setting::{ALL_FEATURES, VECTOR_LENGTHS};
 use crate::step_question::StepQuestion;
@@ -19,17 +20,17 @@ impl List {
         self.competing_refusals();
     }
 
-    /// A word of the form with everything else in order.
-    fn any_open(&mut self, form: Form) -> StepQuestion {
+    /// A word of the row with everything else in order.
+    fn any_open(&mut self, row: Row) -> StepQuestion {
         let vl = self.any_length();
-        let word = samples::matching_word(&mut self.random, form);
+        let word = samples::matching_word(&mut self.random, row);
         self.open(vl, word)
     }
 
     fn every_feature_number(&mut self) {
         for features in (0..=ALL_FEATURES).chain(FEATURES_ABOVE) {
-            for form in Form::ALL {
-                let mut question = self.any_open(form);
+            for row in Row::ALL {
+                let mut question = self.any_open(row);
                 question.start.setting.features = features;
                 self.add(question);
             }
@@ -39,8 +40,8 @@ impl List {
     fn lengths_not_allowed(&mut self) {
         for vl in LENGTHS_NOT_ALLOWED {
             for _ in 0..3 {
-                let form = self.random.pick(&Form::ALL);
-                let mut question = self.any_open(form);
+                let row = self.random.pick(&Row::ALL);
+                let mut question = self.any_open(row);
                 question.start.setting.vl = vl;
                 self.add(question);
             }
@@ -49,9 +50,9 @@ impl List {
 
     fn every_flag(&mut self) {
         for features in FEATURES_FOR_FLAGS {
-            for form in Form::ALL {
+            for row in Row::ALL {
                 for number in 0..8 {
-                    let mut question = self.any_open(form);
+                    let mut question = self.any_open(row);
                     question.start.setting.features = features;
                     question.start.flags = flags(number);
                     self.add(question);
@@ -61,9 +62,9 @@ impl List {
         // Only T closed is rare among the others: each lookup at every length,
         // whether V is open or not.
         for vl in VECTOR_LENGTHS {
-            for form in [Form::Luti4c, Form::Luti4s] {
+            for row in [Row::Luti4c, Row::Luti4s] {
                 for number in [2, 3] {
-                    let word = samples::matching_word(&mut self.random, form);
+                    let word = samples::matching_word(&mut self.random, row);
                     let mut question = self.open(vl, word);
                     question.start.flags = flags(number);
                     self.add(question);
@@ -75,18 +76,18 @@ impl List {
     /// Each file one byte short, one long, empty, doubled and halved, and with
     /// the length of another; whatever the word touches.
     fn wrong_files(&mut self) {
-        for form in Form::ALL {
+        for row in Row::ALL {
             for (file, right) in [(0, 8192), (1, 512), (2, 64)] {
                 let other = [8192, 512, 64][(file + 1) % 3];
                 for length in [right - 1, right + 1, 0, 2 * right, right / 2, other] {
-                    let mut question = self.any_open(form);
+                    let mut question = self.any_open(row);
                     question.start.set_length(file, length);
                     self.add(question);
                 }
             }
             // All wrong at once, and all empty.
             for lengths in [[8191, 513, 65], [0, 0, 0]] {
-                let mut question = self.any_open(form);
+                let mut question = self.any_open(row);
                 for (file, length) in lengths.into_iter().enumerate() {
                     question.start.set_length(file, length);
                 }
@@ -142,7 +143,7 @@ impl List {
     /// A narrowing word with everything else in order.
     fn narrowing(&mut self, bits: u32) -> StepQuestion {
         let vl = self.any_length();
-        let mut fields = self.fields(Form::Narrow);
+        let mut fields = self.fields(Row::Narrow);
         fields[0] = bits;
         self.open_form(vl, Form::Narrow, fields)
     }
@@ -153,8 +154,8 @@ impl List {
     fn competing_refusals(&mut self) {
         for reasons in 0..8 {
             for number in 0..8 {
-                for form in [Form::Pext2, Form::Luti4c, self.random.pick(&Form::ALL)] {
-                    let mut question = self.any_open(form);
+                for row in [Row::Pext2, Row::Luti4c, self.random.pick(&Row::ALL)] {
+                    let mut question = self.any_open(row);
                     question.start.setting.features = 28;
                     question.start.flags = flags(number);
                     if reasons & 1 != 0 {

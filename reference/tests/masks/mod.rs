@@ -2,7 +2,7 @@
 //! written out once more by masks.
 
 use reference::decode::decode;
-use reference::instruction::Form;
+use reference::layout::Row;
 use reference::setting::FULL;
 
 /// What a defined word reads and writes: Z registers in the low 32 bits, P
@@ -11,15 +11,15 @@ pub fn masks(word: u32) -> (u64, u64) {
     let z = |register: u32| 1u64 << (register & 31);
     let p = |register: u32| 1u64 << (32 + (register & 15));
     let found = decode(FULL, word).unwrap();
-    match found.form() {
-        Form::Pext1 => (p(8 | word >> 5 & 7), p(word)),
-        Form::Pext2 => (p(8 | word >> 5 & 7), p(word) | p(word + 1)),
-        Form::Psel => (p(word >> 10) | p(word >> 5), p(word)),
-        Form::Luti4c => (z(word >> 5), 15 << (word & 28)),
-        Form::Luti4s => (z(word >> 5), 0x1111 << (word & 19)),
+    match found.row() {
+        Row::Pext1 => (p(8 | word >> 5 & 7), p(word)),
+        Row::Pext2 => (p(8 | word >> 5 & 7), p(word) | p(word + 1)),
+        Row::Psel => (p(word >> 10) | p(word >> 5), p(word)),
+        Row::Luti4c => (z(word >> 5), 15 << (word & 28)),
+        Row::Luti4s => (z(word >> 5), 0x1111 << (word & 19)),
         // T, bit 10, also reads what it writes.
-        Form::Narrow if word & 0x400 != 0 => (z(word >> 5) | z(word), z(word)),
-        Form::Narrow => (z(word >> 5), z(word)),
+        Row::Narrow if word & 0x400 != 0 => (z(word >> 5) | z(word), z(word)),
+        Row::Narrow => (z(word >> 5), z(word)),
     }
 }
 
