@@ -3,57 +3,36 @@ ghost use mathlib.Core.Path.{_≡_};
 ghost use Rattle.setting.specs.Numbers.{accept};
 ghost use Rattle.element.specs.Units.{sizeAt};
 ghost use Rattle.encoding.specs.Decode.{readAt, decodedAs};
-ghost use Rattle.encoding.specs.declared.Instruction.the-variants.{Pext1, Pext2, Luti4c, Luti4s};
+ghost use Rattle.encoding.specs.declared.Instruction.the-variants.{Luti4c, Luti4s};
 ghost use Rattle.encoding.specs.Rows.{rows};
-ghost use Rattle.fields.specs.Operands.{pselAs, narrowAs};
+ghost use Rattle.fields.specs.Operands.{pextAs, pselAs, narrowAs};
 use encoding::Decoded;
 use encoding::Instruction;
+use fields::LutiOperands;
 use fields::NarrowOperands;
-use fields::Operands;
+use fields::PextOperands;
 use fields::PselOperands;
 use setting::Answer;
 
-fn pext1(o: Operands) -> Decoded
-    ensures { λ r. ⌜ decodedAs r ≡ accept (Pext1 (o .size) (o .immediate) (o .source) (o .destination)) ⌝ }
-{
-    Decoded::Fields(Instruction::Pext1 {
-        size: o.size,
-        imm2: o.immediate,
-        counter: o.source,
-        pd: o.destination,
-    })
-}
-
-fn pext2(o: Operands) -> Decoded
-    ensures { λ r. ⌜ decodedAs r ≡ accept (Pext2 (o .size) (o .immediate) (o .source) (o .destination)) ⌝ }
-{
-    Decoded::Fields(Instruction::Pext2 {
-        size: o.size,
-        i1: o.immediate,
-        counter: o.source,
-        pd: o.destination,
-    })
-}
-
-fn luti4c(o: Operands) -> Decoded
-    ensures { λ r. ⌜ decodedAs r ≡ accept (Luti4c (o .size) (o .immediate) (o .source) (o .destination)) ⌝ }
+fn luti4c(o: LutiOperands) -> Decoded
+    ensures { λ r. ⌜ decodedAs r ≡ accept (Luti4c (o .size) (o .i1) (o .zn) (o .zd)) ⌝ }
 {
     Decoded::Fields(Instruction::Luti4c {
         size: o.size,
-        i1: o.immediate,
-        zn: o.source,
-        zd: o.destination,
+        i1: o.i1,
+        zn: o.zn,
+        zd: o.zd,
     })
 }
 
-fn luti4s(o: Operands) -> Decoded
-    ensures { λ r. ⌜ decodedAs r ≡ accept (Luti4s (o .size) (o .immediate) (o .source) (o .destination)) ⌝ }
+fn luti4s(o: LutiOperands) -> Decoded
+    ensures { λ r. ⌜ decodedAs r ≡ accept (Luti4s (o .size) (o .i1) (o .zn) (o .zd)) ⌝ }
 {
     Decoded::Fields(Instruction::Luti4s {
         size: o.size,
-        i1: o.immediate,
-        zn: o.source,
-        zd: o.destination,
+        i1: o.i1,
+        zn: o.zn,
+        zd: o.zd,
     })
 }
 
@@ -82,6 +61,19 @@ fn size_at(log: u32) -> u32
     0
 }
 
+fn pext(o: PextOperands) -> Decoded
+    ensures { λ r. ⌜ decodedAs r ≡ accept (pextAs o) ⌝ }
+{
+    let size = size_at(o.log);
+    Decoded::Fields(Instruction::Pext {
+        size,
+        first: o.first,
+        portions: o.portions,
+        counter: o.counter,
+        pd: o.pd,
+    })
+}
+
 fn psel(o: PselOperands) -> Decoded
     ensures { λ r. ⌜ decodedAs r ≡ accept (pselAs o) ⌝ }
 {
@@ -101,8 +93,8 @@ pub(crate) fn read(place: usize, word: u32) -> Decoded
     ensures { λ r. ⌜ decodedAs r ≡ readAt rows place word ⌝ }
 {
     match place {
-        0 => pext1(fields::pext1(word)),
-        1 => pext2(fields::pext2(word)),
+        0 => pext(fields::pext(false, word)),
+        1 => pext(fields::pext(true, word)),
         2 => psel(fields::psel(word)),
         3 => luti4c(fields::luti4c(word)),
         4 => luti4s(fields::luti4s(word)),

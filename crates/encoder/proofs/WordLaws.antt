@@ -8,14 +8,15 @@ use lib.Dec.{eqb, ltb, leb, lit<, lit≤}
 use borrow.Author.Tests.{eqb-true, leb-true}
 use Rattle.element.specs.Units.{logOf}
 use Rattle.element.proofs.Tests.{both-yes}
+use Rattle.element.proofs.Units.{log-is, size-is}
 use Rattle.encoding.specs.Layout.{wordOf, fixedOf}
-use Rattle.encoding.specs.Instructions.{pextInRange, inRange, rawPselBits, narrowNumber, rawOf}
+use Rattle.encoding.specs.Instructions.{inRange, rawPselBits, narrowNumber, rawOf}
 use Rattle.encoding.specs.Places.{layoutAt}
-use Rattle.encoding.specs.Rows.{rowOf, placeOf, pext1, pext2, psel, luti4c, luti4s, narrow}
+use Rattle.encoding.specs.Rows.{rowOf, placeOf, psel, luti4c, luti4s, narrow}
 use Rattle.encoding.specs.declared.Instruction.{Instruction}
-use Rattle.encoding.specs.declared.Instruction.the-variants.{Pext1, Pext2, Psel, Luti4c, Luti4s, Narrow}
+use Rattle.encoding.specs.declared.Instruction.the-variants.{Pext, Psel, Luti4c, Luti4s, Narrow}
 use Rattle.encoding.proofs.FieldBits.{luti-size, strided-zd, narrow-bits, narrow-cases, digit-lt}
-use Rattle.encoding.proofs.InRange.{pext-ranges, luti-ranges, narrow-ranges}
+use Rattle.encoding.proofs.InRange.{pext-ranges, portions-cases, luti-ranges, narrow-ranges}
 use Rattle.encoding.proofs.Round.{column-at-place}
 
 -- what is known of the instruction in an arm
@@ -23,11 +24,16 @@ pub known-word : {i j : Instruction} (w : ℕ) → i ≡ j → fixedOf (rowOf j 
 known-word w e h = rw e h
 
 -- ---- what the sums ask
-pub pext-asks : (bound size portion counter pd raw : ℕ) → bound ≤ 4 → raw ≡ logOf size → pextInRange bound size portion counter pd ≡ true
-    → (raw < 4) × (portion < 4) × (8 ≤ counter) × (counter < 16) × (pd < 16)
-pext-asks bound size portion counter pd raw hb e h =
-    let r = pext-ranges bound size portion counter pd h in
-    (rw e (r .size-log .small), omega (arith, r .portion-lt), r .counter-ge, r .counter-lt, r .pd-lt)
+-- the number of portions divides the first, and what comes of it fits
+pub divides : (size first portions counter pd : ℕ) → inRange (Pext size first portions counter pd) ≡ true → (0 < portions) × (first / portions < 4)
+divides size first portions counter pd h =
+    portions-cases (λ f n. (0 < n) × (f / n < 4)) (λ imm2 l. (lit< tt, omega arith)) (λ i1 l. (lit< tt, omega arith)) first portions (pext-ranges size first portions counter pd h .some)
+
+pub pext-asks : (size first portions counter pd raw : ℕ) → raw ≡ logOf size → inRange (Pext size first portions counter pd) ≡ true
+    → (raw < 4) × (first / portions < 4) × (8 ≤ counter) × (counter < 16) × (pd < 16)
+pext-asks size first portions counter pd raw e h =
+    let r = pext-ranges size first portions counter pd h in
+    (rw e (log-is size (size-is size (r .sized)) .small), divides size first portions counter pd h .1, r .counter-ge, r .counter-lt, r .pd-lt)
 
 pub luti4c-asks : (size i1 zn zd raw : ℕ) → raw ≡ logOf size → inRange (Luti4c size i1 zn zd) ≡ true → (raw < 4) × (i1 < 2) × (zn < 32) × (zd < 32)
 luti4c-asks size i1 zn zd raw e h =
@@ -50,13 +56,11 @@ narrow-asks op u r t size shift zn zd bits e h =
     (omega (arith, digit-lt op, digit-lt u, digit-lt r, digit-lt t), s, k, narrow-bits size (g .0) shift (g .1) .lt, g .2, g .3)
 
 -- ---- with the fixed bits the sums are the words
-pub pext1-sum : (size imm2 counter pd raw w : ℕ) → raw ≡ logOf size → w ≡ raw * 0x400000 + imm2 * 0x100 + (counter - 8) * 32 + pd
-    → fixedOf (pext1 .layout) + w ≡ wordOf (pext1 .layout) (rawOf (Pext1 size imm2 counter pd))
-pext1-sum size imm2 counter pd raw w e q = omega arith
-
-pub pext2-sum : (size i1 counter pd raw w : ℕ) → raw ≡ logOf size → w ≡ raw * 0x400000 + i1 * 0x100 + (counter - 8) * 32 + pd
-    → fixedOf (pext2 .layout) + w ≡ wordOf (pext2 .layout) (rawOf (Pext2 size i1 counter pd))
-pext2-sum size i1 counter pd raw w e q = omega arith
+pub pext-sum : (size first portions counter pd raw w : ℕ) → inRange (Pext size first portions counter pd) ≡ true → raw ≡ logOf size → w ≡ raw * 0x400000 + first / portions * 0x100 + (counter - 8) * 32 + pd
+    → fixedOf (rowOf (Pext size first portions counter pd) .layout) + w ≡ wordOf (rowOf (Pext size first portions counter pd) .layout) (rawOf (Pext size first portions counter pd))
+pext-sum size first portions counter pd raw w h e =
+    portions-cases (λ f n. w ≡ raw * 0x400000 + f / n * 0x100 + (counter - 8) * 32 + pd → fixedOf (rowOf (Pext size f n counter pd) .layout) + w ≡ wordOf (rowOf (Pext size f n counter pd) .layout) (rawOf (Pext size f n counter pd)))
+    (λ imm2 l q. omega arith) (λ i1 l q. omega arith) first portions (pext-ranges size first portions counter pd h .some)
 
 pub psel-sum : (size offset index pn pm pd bits w : ℕ) → bits ≡ rawPselBits size offset
     → w ≡ bits / 8 * 0x400000 + bits % 8 * 0x40000 + (index - 12) * 0x10000 + pn * 0x400 + pm * 32 + pd

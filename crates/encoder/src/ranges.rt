@@ -3,10 +3,13 @@ ghost use mathlib.Core.Path.{_≡_};
 ghost use Rattle.encoding.specs.Instructions.{inRange, isOffset, pextInRange, pselInRange, lutiInRange, narrowInRange};
 use encoding::Instruction;
 
-fn pext(bound: u32, size: u32, portion: u32, counter: u32, pd: u32) -> bool
-    ensures { λ r. ⌜ r ≡ pextInRange bound size portion counter pd ⌝ }
+fn pext(size: u32, first: u32, portions: u32, counter: u32, pd: u32) -> bool
+    ensures { λ r. ⌜ r ≡ pextInRange size first portions counter pd ⌝ }
 {
-    element::is_size(size) & (portion < bound) & ((8 <= counter) & (counter < 16)) & (pd < 16)
+    element::is_size(size)
+        & ((first < 4) & ((portions == 1) | ((portions == 2) & (first % 2 == 0))))
+        & ((8 <= counter) & (counter < 16))
+        & (pd < 16)
 }
 
 // Whether the size is one and the offset below 128 divided by it. A size of 0 divides nothing.
@@ -44,18 +47,13 @@ pub(crate) fn in_range(instruction: Instruction) -> bool
     ensures { λ r. ⌜ r ≡ inRange instruction ⌝ }
 {
     match instruction {
-        Instruction::Pext1 {
+        Instruction::Pext {
             size,
-            imm2,
+            first,
+            portions,
             counter,
             pd,
-        } => pext(4, size, imm2, counter, pd),
-        Instruction::Pext2 {
-            size,
-            i1,
-            counter,
-            pd,
-        } => pext(2, size, i1, counter, pd),
+        } => pext(size, first, portions, counter, pd),
         Instruction::Psel {
             size,
             offset,

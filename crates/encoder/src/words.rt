@@ -18,12 +18,12 @@ fn psel_bits(size: u32, offset: u32) -> u32
     offset * (size / 4) + size / 8
 }
 
-// Both layouts of PEXT have their fields at the same places.
-fn pext(raw: u32, portion: u32, counter: u32, pd: u32) -> u32
-    requires { ⌜ (raw < 4) × (portion < 4) × (8 ≤ counter) × (counter < 16) × (pd < 16) ⌝ }
-    ensures { λ r. ⌜ r ≡ raw * 0x400000 + portion * 0x100 + (counter - 8) * 32 + pd ⌝ }
+// Both layouts of PEXT have their fields at the same places; the immediate is imm2 or i1.
+fn pext(raw: u32, immediate: u32, counter: u32, pd: u32) -> u32
+    requires { ⌜ (raw < 4) × (immediate < 4) × (8 ≤ counter) × (counter < 16) × (pd < 16) ⌝ }
+    ensures { λ r. ⌜ r ≡ raw * 0x400000 + immediate * 0x100 + (counter - 8) * 32 + pd ⌝ }
 {
-    raw * 0x400000 + portion * 0x100 + (counter - 8) * 32 + pd
+    raw * 0x400000 + immediate * 0x100 + (counter - 8) * 32 + pd
 }
 
 fn psel(bits: u32, index: u32, pn: u32, pm: u32, pd: u32) -> u32
@@ -56,18 +56,13 @@ fn fields_of(instruction: Instruction) -> u32
     ensures { λ r. ⌜ fixedOf (rowOf instruction .layout) + r ≡ wordOf (rowOf instruction .layout) (rawOf instruction) ⌝ }
 {
     match instruction {
-        Instruction::Pext1 {
+        Instruction::Pext {
             size,
-            imm2,
+            first,
+            portions,
             counter,
             pd,
-        } => pext(log_of(size), imm2, counter, pd),
-        Instruction::Pext2 {
-            size,
-            i1,
-            counter,
-            pd,
-        } => pext(log_of(size), i1, counter, pd),
+        } => pext(log_of(size), first / portions, counter, pd),
         Instruction::Psel {
             size,
             offset,

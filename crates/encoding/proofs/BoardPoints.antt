@@ -1,4 +1,4 @@
--- The starred cases on reading words, the points of PSEL beside them and the names of the narrowing words: each computes, and under every setting only the feature of LUTI4S is left open.
+-- The starred cases on reading words, the points of PEXT and PSEL beside them and the names of the narrowing words: each computes, and under every setting only the feature of LUTI4S is left open.
 use mathlib.Core.Path.{_≡_, refl}
 use mathlib.Core.Bool.{true, false}
 use lib.Count.{trailingZeros}
@@ -9,7 +9,7 @@ use Rattle.setting.specs.declared.Setting.{Setting}
 use Rattle.element.specs.Size.{sizeOf}
 use Rattle.encoding.specs.Decode.{decodeOf}
 use Rattle.logic.specs.Every.{Every}
-use Rattle.encoding.specs.Points.{readingPoints, pselReadings}
+use Rattle.encoding.specs.Points.{readingPoints, predicateReadings}
 use Rattle.encoding.specs.NarrowWords.{NarrowNamed}
 use Rattle.encoding.specs.declared.Instruction.the-variants.{Luti4s}
 use Rattle.encoding.proofs.Apart.{decide}
@@ -35,6 +35,6 @@ unfolding decodeOf allowedOf sizeOf trailingZeros
 reading-points =
     (refl, (refl, (refl, (strided-here, (strided-missing, (never-strided-words, (refl, (refl, (refl, (refl, (refl, (refl, (refl, tt)))))))))))))
 
-pub psel-readings : Every pselReadings
+pub predicate-readings : Every predicateReadings
 unfolding decodeOf allowedOf sizeOf trailingZeros
-psel-readings = (refl, (refl, (refl, (refl, (refl, tt)))))
+predicate-readings = (refl, (refl, (refl, (refl, (refl, (refl, (refl, tt)))))))

@@ -10,14 +10,13 @@ use Rattle.encoding.specs.Instructions.{narrowNumber}
 use Rattle.encoding.specs.Rows.{rows}
 use Rattle.encoding.specs.Decode.{decodeOf}
 use Rattle.encoding.specs.declared.Instruction.{Instruction}
-use Rattle.encoding.specs.declared.Instruction.the-variants.{Pext1, Pext2, Psel, Luti4c, Luti4s, Narrow}
+use Rattle.encoding.specs.declared.Instruction.the-variants.{Pext, Psel, Luti4c, Luti4s, Narrow}
 use Rattle.encoding.proofs.Apart.{decide}
 use Rattle.encoding.proofs.Choice.{accepted-by}
 use Rattle.encoding.proofs.FieldBits.{digit-set}
 
 abbrev pub FourBits : ℕ → Instruction → Type 0
-FourBits w (Pext1 size imm2 counter pd) = Unit {0}
-FourBits w (Pext2 size i1 counter pd) = Unit {0}
+FourBits w (Pext size first portions counter pd) = Unit {0}
 FourBits w (Psel size offset index pn pm pd) = Unit {0}
 FourBits w (Luti4c size i1 zn zd) = Unit {0}
 FourBits w (Luti4s size i1 zn zd) = Unit {0}

@@ -1,5 +1,5 @@
 -- An instruction in range, form by form: what its range says of each field, that the fields fit the layout and meet the condition of its row, and that they are read back.
-use mathlib.Core.Path.{_≡_, refl, ap, sym}
+use mathlib.Core.Path.{_≡_, refl, ap, sym, subst}
 use mathlib.Core.Bool.{Bool, true, _&&_, _||_}
 use Prim.Native.Nat.{ℕ, _+_, _-_, _*_, _%_, _/_, _<_, _≤_}
 use native.Mathlib.Omega.{arith}
@@ -10,11 +10,12 @@ use Rattle.element.specs.Units.{logOf}
 use Rattle.element.specs.Private.{Log}
 use Rattle.element.proofs.Tests.{both-yes}
 use Rattle.element.proofs.Units.{log-is, size-is}
-use Rattle.encoding.specs.Instructions.{isP, isZ, pextInRange, isOffset, pselInRange, lutiInRange, narrowInRange, inRange, rawPselBits, rawOf}
+use Rattle.encoding.specs.Instructions.{isP, isZ, isPortions, pextInRange, isOffset, pselInRange, lutiInRange, narrowInRange, inRange, rawPselBits, rawOf}
 use Rattle.encoding.specs.Rows.{rowOf}
 use Rattle.encoding.specs.declared.Instruction.{Instruction}
-use Rattle.encoding.specs.declared.Instruction.the-variants.{Pext1, Pext2, Psel, Luti4c, Luti4s, Narrow}
+use Rattle.encoding.specs.declared.Instruction.the-variants.{Pext, Psel, Luti4c, Luti4s, Narrow}
 use Rattle.encoding.proofs.LayoutLaws.{Fit}
+use Rattle.encoding.proofs.Apart.{decide}
 use Rattle.encoding.proofs.FieldBits.{PselBits, psel-bits, luti-size, strided-zd, narrow-bits, digit-lt, set-digit}
 
 -- the fields that it is written with fit its row, meet its condition, and are read as it
@@ -23,24 +24,53 @@ pub record Reads (i : Instruction) : Type 0 where
   pub holds : rowOf i .condition (rawOf i) ≡ true
   pub back : rowOf i .reading (rawOf i) ≡ i
 
--- ---- PEXT, over the bound of its portion
-pub record Pext (bound size portion counter pd : ℕ) : Type 0 where
-  pub size-log : Log size (logOf size)
-  pub portion-lt : portion < bound
+-- ---- PEXT
+pub record PextFields (size first portions counter pd : ℕ) : Type 0 where
+  pub sized : isSize size ≡ true
+  pub some : isPortions first portions ≡ true
   pub counter-ge : 8 ≤ counter
   pub counter-lt : counter < 16
   pub pd-lt : pd < 16
 
-pub pext-ranges : (bound size portion counter pd : ℕ) → pextInRange bound size portion counter pd ≡ true → Pext bound size portion counter pd
-pext-ranges bound size portion counter pd e =
-    let a = both-yes (isSize size && ltb portion bound && (leb 8 counter && ltb counter 16)) (isP pd) e in
-    let b = both-yes (isSize size && ltb portion bound) (leb 8 counter && ltb counter 16) (a .0) in
-    let c = both-yes (isSize size) (ltb portion bound) (b .0) in
+pub pext-ranges : (size first portions counter pd : ℕ) → pextInRange size first portions counter pd ≡ true → PextFields size first portions counter pd
+pext-ranges size first portions counter pd e =
+    let a = both-yes (isSize size && isPortions first portions && (leb 8 counter && ltb counter 16)) (isP pd) e in
+    let b = both-yes (isSize size && isPortions first portions) (leb 8 counter && ltb counter 16) (a .0) in
+    let c = both-yes (isSize size) (isPortions first portions) (b .0) in
     let d = both-yes (leb 8 counter) (ltb counter 16) (b .1) in
-    record { size-log = log-is size (size-is size (c .0)); portion-lt = ltb-true portion bound (c .1); counter-ge = leb-true 8 counter (d .0); counter-lt = ltb-true counter 16 (d .1); pd-lt = ltb-true pd 16 (a .1) }
+    record { sized = c .0; some = c .1; counter-ge = leb-true 8 counter (d .0); counter-lt = ltb-true counter 16 (d .1); pd-lt = ltb-true pd 16 (a .1) }
+
+-- one of the four portions, or two from 2 · i1 on
+pub portions-cases : (P : ℕ → ℕ → Type 0) → ((imm2 : ℕ) → imm2 < 4 → P imm2 1) → ((i1 : ℕ) → i1 < 2 → P (2 * i1) 2) → (first portions : ℕ) → isPortions first portions ≡ true → P first portions
+portions-cases P one two first portions e =
+    let a = both-yes (ltb first 4) _ e in
+    let l = ltb-true first 4 (a .0) in
+    let m = a .1 in
+    decide (eqb portions 1) (λ h. rw (eqb-true portions 1 h) (one first l))
+    (λ h. let b = both-yes (eqb portions 2) _ (simp h at m) in
+    let even = eqb-true (first % 2) 0 (b .1) in
+    let twice : 2 * (first / 2) ≡ first = omega arith in
+    rw (eqb-true portions 2 (b .0)) (subst (λ (n : ℕ). P n 2) twice (two (first / 2) (omega arith))))
 
 above : (k n : ℕ) → k ≤ n → k + (n - k) ≡ n
 above k n h = omega arith
+
+pext-reads : (size first portions counter pd : ℕ) → PextFields size first portions counter pd → Reads (Pext size first portions counter pd)
+pext-reads size first portions counter pd r =
+    let s = log-is size (size-is size (r .sized)) in
+    let n : counter - 8 < 8 = omega (arith, r .counter-lt) in
+    portions-cases (λ f k. Reads (Pext size f k counter pd))
+    (λ imm2 h. let back-imm2 : 1 * (imm2 / 1) ≡ imm2 = omega arith in record {
+      fit = (lit< tt, (s .small, (lit< tt, (lit< tt, (omega arith, (n, (lit< tt, (r .pd-lt, tt))))))));
+      holds = refl;
+      back = simp (sym (s .is), back-imm2, above 8 counter (r .counter-ge));
+    })
+    (λ i1 h. let back-i1 : 2 * (2 * i1 / 2) ≡ 2 * i1 = omega arith in record {
+      fit = (lit< tt, (s .small, (lit< tt, (lit< tt, (lit< tt, (omega arith, (n, (lit< tt, (r .pd-lt, tt)))))))));
+      holds = refl;
+      back = simp (sym (s .is), back-i1, above 8 counter (r .counter-ge));
+    })
+    first portions (r .some)
 
 -- ---- PSEL
 pub record PselFields (size offset index pn pm pd : ℕ) : Type 0 where
@@ -131,20 +161,7 @@ narrow-reads op u r t size shift zn zd e =
 
 -- ---- every form
 pub in-range-reads : (i : Instruction) → inRange i ≡ true → Reads i
-in-range-reads (Pext1 size imm2 counter pd) e =
-    let r = pext-ranges 4 size imm2 counter pd e in
-    record {
-      fit = (lit< tt, (r .size-log .small, (lit< tt, (lit< tt, (r .portion-lt, (omega (arith, r .counter-lt), (lit< tt, (r .pd-lt, tt))))))));
-      holds = refl;
-      back = simp (sym (r .size-log .is), above 8 counter (r .counter-ge));
-    }
-in-range-reads (Pext2 size i1 counter pd) e =
-    let r = pext-ranges 2 size i1 counter pd e in
-    record {
-      fit = (lit< tt, (r .size-log .small, (lit< tt, (lit< tt, (lit< tt, (r .portion-lt, (omega (arith, r .counter-lt), (lit< tt, (r .pd-lt, tt)))))))));
-      holds = refl;
-      back = simp (sym (r .size-log .is), above 8 counter (r .counter-ge));
-    }
+in-range-reads (Pext size first portions counter pd) e = pext-reads size first portions counter pd (pext-ranges size first portions counter pd e)
 in-range-reads (Psel size offset index pn pm pd) e = psel-reads size offset index pn pm pd (psel-ranges size offset index pn pm pd e)
 in-range-reads (Luti4c size i1 zn zd) e = luti4c-reads size i1 zn zd e
 in-range-reads (Luti4s size i1 zn zd) e = luti4s-reads size i1 zn zd e

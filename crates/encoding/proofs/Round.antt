@@ -20,7 +20,7 @@ use Rattle.encoding.specs.Decode.{firstOf, decodeOf, readAt}
 use Rattle.encoding.specs.Encode.{Written, written, encodeOf}
 use Rattle.encoding.specs.Claims.{UndefinedExactly, OneLayout, DecodeEncode, EncodeDecode}
 use Rattle.encoding.specs.declared.Instruction.{Instruction}
-use Rattle.encoding.specs.declared.Instruction.the-variants.{Pext1, Pext2, Psel, Luti4c, Luti4s, Narrow}
+use Rattle.encoding.specs.declared.Instruction.the-variants.{Pext, Psel, Luti4c, Luti4s, Narrow}
 use Rattle.encoding.proofs.LayoutLaws.{word-lt, fields-back, word-matches}
 use Rattle.encoding.proofs.Apart.{decide}
 use Rattle.encoding.proofs.Choice.{disjoint, none-first, first-is-read, place-is, at-most-one, refused-none, each-row, accepted-by}
@@ -42,8 +42,7 @@ one-layout w = at-most-one rows rows-disjoint w
 -- ---- decode after encode
 -- what stands in a column at an instruction's place is its row's
 pub column-at-place : {A : Type 0} (f : Row → A) (d : A) (i : Instruction) → getD (map f rows) (placeOf i) d ≡ f (rowOf i)
-column-at-place f d (Pext1 size imm2 counter pd) = refl
-column-at-place f d (Pext2 size i1 counter pd) = refl
+column-at-place f d (Pext size first portions counter pd) = decide (eqb portions 2) (λ e. simp e) (λ e. simp e)
 column-at-place f d (Psel size offset index pn pm pd) = refl
 column-at-place f d (Luti4c size i1 zn zd) = refl
 column-at-place f d (Luti4s size i1 zn zd) = refl

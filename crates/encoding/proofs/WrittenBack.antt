@@ -7,7 +7,7 @@ use native.Mathlib.Omega.{arith}
 use lib.Dec.{eqb}
 use borrow.Author.Tests.{eq-eqb, eqb-true, lt-ltb, le-leb, not-true}
 use Rattle.encoding.specs.Layout.{fieldsOf}
-use Rattle.encoding.specs.Instructions.{pextInRange, inRange, rawPext, rawOf}
+use Rattle.encoding.specs.Instructions.{isPortions, readPext, inRange, rawOf}
 use Rattle.encoding.specs.Rows.{Row, pext1, pext2, psel, luti4c, luti4s, narrow}
 use Rattle.encoding.specs.declared.Instruction.{Instruction}
 use Rattle.encoding.proofs.FieldBits.{log-size, psel-read, size-luti, zd-strided, ShiftRead, narrow-read, digit-set}
@@ -17,14 +17,16 @@ pub record Writes (i : Instruction) (xs : List ℕ) : Type 0 where
   pub range : inRange i ≡ true
   pub back : rawOf i ≡ xs
 
-pext-in-range : (bound s p n d : ℕ) → s < 4 → p < bound → n < 8 → d < 16 → (pextInRange bound (8 * 2 ^ s) p (8 + n) d ≡ true) × (rawPext (8 * 2 ^ s) p (8 + n) d ≡ s ∷ p ∷ n ∷ d ∷ [])
-pext-in-range bound s p n d hs hp hn hd =
+pext-writes : (portions s p n d : ℕ) → s < 4 → n < 8 → d < 16 → isPortions (portions * p) portions ≡ true → portions * p / portions ≡ p
+    → Writes (readPext portions (s ∷ p ∷ n ∷ d ∷ [])) (s ∷ p ∷ n ∷ d ∷ [])
+pext-writes portions s p n d hs hn hd some back-p =
     let l : 8 ≤ 8 + n = omega arith in
     let u : 8 + n < 16 = omega arith in
-    let m : 8 + n - 8 ≡ n = omega arith in (
-      simp (log-size s hs .1, lt-ltb p bound hp, le-leb 8 (8 + n) l, lt-ltb (8 + n) 16 u, lt-ltb d 16 hd),
-      ap₂ (λ (x y : ℕ). x ∷ p ∷ y ∷ d ∷ []) (log-size s hs .0) m,
-    )
+    let back-n : 8 + n - 8 ≡ n = omega arith in
+    record {
+      range = simp (log-size s hs .1, some, le-leb 8 (8 + n) l, lt-ltb (8 + n) 16 u, lt-ltb d 16 hd);
+      back = simp (log-size s hs .0, back-p, back-n);
+    }
 
 psel-writes : (a b c v pn pm pd : ℕ) → a < 2 → b < 2 → c < 8 → v < 4 → pn < 16 → pm < 16 → pd < 16 → not (eqb (b * 8 + c) 0) ≡ true
     → Writes (psel .reading (a ∷ b ∷ c ∷ v ∷ pn ∷ pm ∷ pd ∷ [])) (a ∷ b ∷ c ∷ v ∷ pn ∷ pm ∷ pd ∷ [])
@@ -83,13 +85,16 @@ RowWrites r = (w : ℕ) → r .condition (fieldsOf (r .layout) w) ≡ true → W
 
 pub pext1-writes : RowWrites pext1
 pext1-writes w e =
-    let p = pext-in-range 4 (w / 0x400000 % 4) (w / 0x100 % 4) (w / 32 % 8) (w / 1 % 16) (omega arith) (omega arith) (omega arith) (omega arith) in
-    record { range = p .0; back = p .1 }
+    let imm2 = w / 0x100 % 4 in
+    let lt : 1 * imm2 < 4 = omega arith in
+    pext-writes 1 (w / 0x400000 % 4) imm2 (w / 32 % 8) (w / 1 % 16) (omega arith) (omega arith) (omega arith) (simp (lt-ltb (1 * imm2) 4 lt)) (omega arith)
 
 pub pext2-writes : RowWrites pext2
 pext2-writes w e =
-    let p = pext-in-range 2 (w / 0x400000 % 4) (w / 0x100 % 2) (w / 32 % 8) (w / 1 % 16) (omega arith) (omega arith) (omega arith) (omega arith) in
-    record { range = p .0; back = p .1 }
+    let i1 = w / 0x100 % 2 in
+    let lt : 2 * i1 < 4 = omega arith in
+    let even : 2 * i1 % 2 ≡ 0 = omega arith in
+    pext-writes 2 (w / 0x400000 % 4) i1 (w / 32 % 8) (w / 1 % 16) (omega arith) (omega arith) (omega arith) (simp (lt-ltb (2 * i1) 4 lt, eq-eqb (2 * i1 % 2) 0 even)) (omega arith)
 
 pub psel-row-writes : RowWrites psel
 psel-row-writes w e =

@@ -1,4 +1,4 @@
--- What `claims` promises of the definitions: a word is undefined exactly when no row matches it, decoding and encoding undo each other wherever neither is refused, PSEL is read by its fields and features, and the narrowing words are read and named in the manual's order.
+-- What `claims` promises of the definitions: a word is undefined exactly when no row matches it, decoding and encoding undo each other wherever neither is refused, PEXT is read by its two layouts and PSEL by its fields and features, and the narrowing words are read and named in the manual's order.
 use mathlib.Core.Path.{_≡_}
 use mathlib.Core.Bool.{Bool, true, false}
 use mathlib.Core.List.{List, [], _∷_}
@@ -12,7 +12,7 @@ use Rattle.encoding.specs.Rows.{Row, rows, rowMatches}
 use Rattle.encoding.specs.Decode.{decodeOf}
 use Rattle.encoding.specs.Encode.{written, encodeOf}
 use Rattle.logic.specs.Every.{Every}
-use Rattle.encoding.specs.Points.{readingPoints, pselReadings}
+use Rattle.encoding.specs.Points.{readingPoints, predicateReadings}
 use Rattle.encoding.specs.NarrowWords.{NarrowNamed}
 use Rattle.encoding.specs.declared.Instruction.{Instruction}
 
@@ -50,5 +50,5 @@ pub record Claims : Type 0 where
   pub decode-encode : DecodeEncode
   pub encode-decode : EncodeDecode
   pub points : Every readingPoints
-  pub psel-readings : Every pselReadings
+  pub predicate-readings : Every predicateReadings
   pub narrow-named : NarrowNamed

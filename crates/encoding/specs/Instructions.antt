@@ -9,20 +9,16 @@ use Rattle.element.specs.Size.{zeros, sizeOf, isSize, isResult}
 use Rattle.element.specs.Units.{logOf}
 use Rattle.element.specs.Contents.{digit}
 use Rattle.encoding.specs.declared.Instruction.{Instruction}
-use Rattle.encoding.specs.declared.Instruction.the-variants.{Pext1, Pext2, Psel, Luti4c, Luti4s, Narrow}
+use Rattle.encoding.specs.declared.Instruction.the-variants.{Pext, Psel, Luti4c, Luti4s, Narrow}
 
 -- ---- reading
 -- raw field i, counted from the highest
 abbrev pub raw : List ℕ → ℕ → ℕ
 raw xs i = getD xs i 0
 
--- size, imm2, PNn, Pd
-abbrev pub readPext1 : List ℕ → Instruction
-readPext1 xs = Pext1 (8 * 2 ^ raw xs 0) (raw xs 1) (8 + raw xs 2) (raw xs 3)
-
--- size, i1, PNn, Pd
-abbrev pub readPext2 : List ℕ → Instruction
-readPext2 xs = Pext2 (8 * 2 ^ raw xs 0) (raw xs 1) (8 + raw xs 2) (raw xs 3)
+-- size, imm2 or i1, PNn, Pd, of a layout for so many portions: the first is imm2 for one, and 2 · i1 for two
+abbrev pub readPext : ℕ → List ℕ → Instruction
+readPext portions xs = Pext (8 * 2 ^ raw xs 0) (portions * raw xs 1) portions (8 + raw xs 2) (raw xs 3)
 
 -- PSEL's i1:tszh:tszl says the size by its low four bits, and the offset by those above the lowest one that is set
 abbrev pub pselOffset : ℕ → ℕ
@@ -71,8 +67,12 @@ isP n = ltb n 16
 abbrev pub isZ : ℕ → Bool
 isZ n = ltb n 32
 
+-- document 02, request 8: one of the four portions, or two from an even one on
+abbrev pub isPortions : ℕ → ℕ → Bool
+isPortions first portions = ltb first 4 && (eqb portions 1 || (eqb portions 2 && eqb (first % 2) 0))
+
 abbrev pub pextInRange : ℕ → ℕ → ℕ → ℕ → ℕ → Bool
-pextInRange bound size portion counter pd = isSize size && ltb portion bound && (leb 8 counter && ltb counter 16) && isP pd
+pextInRange size first portions counter pd = isSize size && isPortions first portions && (leb 8 counter && ltb counter 16) && isP pd
 
 -- PSEL's size and offset
 abbrev pub isOffset : ℕ → ℕ → Bool
@@ -88,17 +88,13 @@ abbrev pub narrowInRange : ℕ → ℕ → ℕ → ℕ → Bool
 narrowInRange size shift zn zd = isResult size && (leb 1 shift && leb shift size) && (isZ zn && isZ zd)
 
 abbrev pub inRange : Instruction → Bool
-inRange (Pext1 size imm2 counter pd) = pextInRange 4 size imm2 counter pd
-inRange (Pext2 size i1 counter pd) = pextInRange 2 size i1 counter pd
+inRange (Pext size first portions counter pd) = pextInRange size first portions counter pd
 inRange (Psel size offset index pn pm pd) = pselInRange size offset index pn pm pd
 inRange (Luti4c size i1 zn zd) = lutiInRange (eqb size 16 || eqb size 32) i1 zn (eqb (zd % 4) 0 && leb zd 28)
 inRange (Luti4s size i1 zn zd) = lutiInRange (eqb size 16) i1 zn (ltb zd 4 || (leb 16 zd && ltb zd 20))
 inRange (Narrow op u r t size shift zn zd) = narrowInRange size shift zn zd
 
 -- ---- the raw fields that are read as these; the field of a size of 8 · 2^z bits is z
-abbrev pub rawPext : ℕ → ℕ → ℕ → ℕ → List ℕ
-rawPext size portion counter pd = logOf size ∷ portion ∷ (counter - 8) ∷ pd ∷ []
-
 -- i1:tszh:tszl
 abbrev pub rawPselBits : ℕ → ℕ → ℕ
 rawPselBits size offset = offset * (size / 4) + size / 8
@@ -111,8 +107,7 @@ abbrev pub rawNarrow : Bool → Bool → Bool → Bool → ℕ → ℕ → ℕ �
 rawNarrow op u r t v zn zd = v / 32 ∷ (v / 8 % 4) ∷ (v % 8) ∷ digit op ∷ digit u ∷ digit r ∷ digit t ∷ zn ∷ zd ∷ []
 
 abbrev pub rawOf : Instruction → List ℕ
-rawOf (Pext1 size imm2 counter pd) = rawPext size imm2 counter pd
-rawOf (Pext2 size i1 counter pd) = rawPext size i1 counter pd
+rawOf (Pext size first portions counter pd) = logOf size ∷ first / portions ∷ (counter - 8) ∷ pd ∷ []
 rawOf (Psel size offset index pn pm pd) = rawPsel (rawPselBits size offset) index pn pm pd
 rawOf (Luti4c size i1 zn zd) = i1 ∷ logOf size ∷ zn ∷ (zd / 4) ∷ []
 rawOf (Luti4s size i1 zn zd) = i1 ∷ logOf size ∷ zn ∷ (zd / 16) ∷ (zd % 16) ∷ []

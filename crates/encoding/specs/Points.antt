@@ -1,4 +1,4 @@
--- Document 01, "Points on the board": the starred cases that are about reading words, as one list, and beside it points of PSEL. The crate machine adds the others.
+-- Document 01, "Points on the board": the starred cases that are about reading words, as one list, and beside it points of PEXT and PSEL. The crate machine adds the others.
 use mathlib.Core.Path.{_≡_}
 use mathlib.Core.Bool.{true, false}
 use mathlib.Core.List.{List, [], _∷_}
@@ -7,7 +7,7 @@ use Rattle.setting.specs.Numbers.{accept, refuse}
 use Rattle.setting.specs.declared.Feature.the-variants.{Sme2p1}
 use Rattle.setting.specs.declared.Setting.{Setting}
 use Rattle.encoding.specs.Decode.{decodeOf}
-use Rattle.encoding.specs.declared.Instruction.the-variants.{Psel, Luti4c, Luti4s, Narrow}
+use Rattle.encoding.specs.declared.Instruction.the-variants.{Pext, Psel, Luti4c, Luti4s, Narrow}
 
 -- VL 128, all features on
 abbrev pub board : Setting
@@ -34,10 +34,13 @@ readingPoints =
     ∷ (decodeOf board 0x25e04000 ≡ accept (Psel 64 1 12 0 0 0))
     ∷ []
 
--- document 02, request 2: PSEL's Pn and Pm are bits 13:10 and 8:5, and SME or SVE2p1 is enough; SVE2 alone, feature number 1, is not
-abbrev pub pselReadings : List (Type 0)
-pselReadings =
-    (decodeOf board 0x25244443 ≡ accept (Psel 8 0 12 1 2 3))
+-- document 02, request 8: PEXT of one portion is read by the layout with imm2, and of two, from 2 · i1 on, by the one with i1
+-- request 2: PSEL's Pn and Pm are bits 13:10 and 8:5, and SME or SVE2p1 is enough; SVE2 alone, feature number 1, is not
+abbrev pub predicateReadings : List (Type 0)
+predicateReadings =
+    (decodeOf board 0x25207332 ≡ accept (Pext 8 3 1 9 2))
+    ∷ (decodeOf board 0x25607532 ≡ accept (Pext 16 2 2 9 2))
+    ∷ (decodeOf board 0x25244443 ≡ accept (Psel 8 0 12 1 2 3))
     ∷ (decodeOf (record { vl = 128; features = 3 }) 0x25244443 ≡ accept (Psel 8 0 12 1 2 3))
     ∷ (decodeOf (record { vl = 128; features = 4 }) 0x25244443 ≡ accept (Psel 8 0 12 1 2 3))
     ∷ (decodeOf (record { vl = 128; features = 1 }) 0x25244443 ≡ refuse 3)

@@ -3,14 +3,15 @@ use mathlib.Core.Bool.{Bool, true, not, _&&_, _||_}
 use mathlib.Core.List.{List, [], _∷_}
 use Prim.Native.Nat.{ℕ, _+_, _*_}
 use lib.Dec.{eqb}
+use Rattle.logic.specs.Pick.{pick}
 use Rattle.setting.specs.Allowed.{hasAny}
 use Rattle.setting.specs.declared.Feature.{Feature}
 use Rattle.setting.specs.declared.Feature.the-variants.{Sve2, Sve2p1, Sme, Sme2, Sme2p1}
 use Rattle.encoding.specs.Layout.{Piece, fix, var, fieldsOf, matches}
-use Rattle.encoding.specs.Instructions.{raw, readPext1, readPext2, readPsel, readLuti4c, readLuti4s, narrowTsz, readNarrow}
+use Rattle.encoding.specs.Instructions.{raw, readPext, readPsel, readLuti4c, readLuti4s, narrowTsz, readNarrow}
 use Rattle.encoding.specs.Names.{narrowName}
 use Rattle.encoding.specs.declared.Instruction.{Instruction}
-use Rattle.encoding.specs.declared.Instruction.the-variants.{Pext1, Pext2, Psel, Luti4c, Luti4s, Narrow}
+use Rattle.encoding.specs.declared.Instruction.the-variants.{Pext, Psel, Luti4c, Luti4s, Narrow}
 
 pub record Row : Type 0 where
   pub layout : List Piece
@@ -21,27 +22,24 @@ pub record Row : Type 0 where
   pub reading : List ℕ → Instruction
   pub name : List ℕ → List ℕ
 
--- 00100101 <size:2> 10000001110 0 <imm2> <PNn:3> 1 <Pd:4>
-abbrev pub pext1 : Row
-pext1 = record {
-  layout = fix 8 0b00100101 ∷ var 2 ∷ fix 11 0b10000001110 ∷ fix 1 0b0 ∷ var 2 ∷ var 3 ∷ fix 1 0b1 ∷ var 4 ∷ [];
+-- PEXT of so many portions by a layout of its own; document 01 has its two rows as forms, PEXT1 and PEXT2
+abbrev pub pextRow : ℕ → List Piece → Row
+pextRow portions pieces = record {
+  layout = pieces;
   features = Sme2 ∷ Sve2p1 ∷ [];
   condition = λ xs. true;
-  reading = readPext1;
-  -- PEXT1
-  name = λ xs. 80 ∷ 69 ∷ 88 ∷ 84 ∷ 49 ∷ [];
+  reading = readPext portions;
+  -- PEXT and the digit of their number
+  name = λ xs. 80 ∷ 69 ∷ 88 ∷ 84 ∷ (48 + portions) ∷ [];
 }
+
+-- 00100101 <size:2> 10000001110 0 <imm2> <PNn:3> 1 <Pd:4>
+abbrev pub pext1 : Row
+pext1 = pextRow 1 (fix 8 0b00100101 ∷ var 2 ∷ fix 11 0b10000001110 ∷ fix 1 0b0 ∷ var 2 ∷ var 3 ∷ fix 1 0b1 ∷ var 4 ∷ [])
 
 -- 00100101 <size:2> 10000001110 1 0 <i1> <PNn:3> 1 <Pd:4>
 abbrev pub pext2 : Row
-pext2 = record {
-  layout = fix 8 0b00100101 ∷ var 2 ∷ fix 11 0b10000001110 ∷ fix 1 0b1 ∷ fix 1 0b0 ∷ var 1 ∷ var 3 ∷ fix 1 0b1 ∷ var 4 ∷ [];
-  features = Sme2 ∷ Sve2p1 ∷ [];
-  condition = λ xs. true;
-  reading = readPext2;
-  -- PEXT2
-  name = λ xs. 80 ∷ 69 ∷ 88 ∷ 84 ∷ 50 ∷ [];
-}
+pext2 = pextRow 2 (fix 8 0b00100101 ∷ var 2 ∷ fix 11 0b10000001110 ∷ fix 1 0b1 ∷ fix 1 0b0 ∷ var 1 ∷ var 3 ∷ fix 1 0b1 ∷ var 4 ∷ [])
 
 -- 00100101 <i1> <tszh> 1 <tszl:3> <Rv:2> 01 <Pn:4> 0 <Pm:4> 0 <Pd:4>; tszh:tszl not 0000
 -- document 01 has a withdrawn draft of it, DUP, and calls Rv there Rm, Pn there Pg, and Pm there Pn
@@ -91,18 +89,16 @@ narrow = record {
 abbrev pub rows : List Row
 rows = pext1 ∷ pext2 ∷ psel ∷ luti4c ∷ luti4s ∷ narrow ∷ []
 
--- the row of an instruction's form, and its place in the table, from 0
+-- the row that an instruction is written by, and its place in the table, from 0
 abbrev pub rowOf : Instruction → Row
-rowOf (Pext1 size imm2 counter pd) = pext1
-rowOf (Pext2 size i1 counter pd) = pext2
+rowOf (Pext size first portions counter pd) = pick (eqb portions 2) pext2 pext1
 rowOf (Psel size offset index pn pm pd) = psel
 rowOf (Luti4c size i1 zn zd) = luti4c
 rowOf (Luti4s size i1 zn zd) = luti4s
 rowOf (Narrow op u r t size shift zn zd) = narrow
 
 abbrev pub placeOf : Instruction → ℕ
-placeOf (Pext1 size imm2 counter pd) = 0
-placeOf (Pext2 size i1 counter pd) = 1
+placeOf (Pext size first portions counter pd) = pick (eqb portions 2) 1 0
 placeOf (Psel size offset index pn pm pd) = 2
 placeOf (Luti4c size i1 zn zd) = 3
 placeOf (Luti4s size i1 zn zd) = 4

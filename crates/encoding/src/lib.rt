@@ -9,15 +9,11 @@ use setting::Answer;
 
 // A word's fields as read: element size and register numbers. No variant is a refusal.
 pub enum Instruction {
-    Pext1 {
+    // One or two portions of a counter's mask, from the first on.
+    Pext {
         size: u32,
-        imm2: u32,
-        counter: u32,
-        pd: u32,
-    },
-    Pext2 {
-        size: u32,
-        i1: u32,
+        first: u32,
+        portions: u32,
         counter: u32,
         pd: u32,
     },
@@ -70,8 +66,7 @@ pub fn place(instruction: Instruction) -> usize
     ensures { λ r. ⌜ r ≡ placeOf instruction ⌝ }
 {
     match instruction {
-        Instruction::Pext1 { .. } => 0,
-        Instruction::Pext2 { .. } => 1,
+        Instruction::Pext { portions, .. } => if portions == 2 { 1 } else { 0 },
         Instruction::Psel { .. } => 2,
         Instruction::Luti4c { .. } => 3,
         Instruction::Luti4s { .. } => 4,

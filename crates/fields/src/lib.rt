@@ -2,23 +2,23 @@
 ghost use mathlib.Core.Path.{_≡_};
 ghost use Prim.Native.Nat.{_+_, _*_, _/_, _%_, _^_, _<_};
 ghost use Rattle.setting.specs.Numbers.{accept};
-ghost use Rattle.element.specs.Units.{logOf, sizeAt};
+ghost use Rattle.logic.specs.Pick.{pick};
 ghost use Rattle.encoding.specs.Instructions.{narrowSize};
 ghost use Rattle.encoding.specs.Rows.{rows};
 ghost use Rattle.encoding.specs.Decode.{readAt};
-ghost use Rattle.encoding.specs.declared.Instruction.the-variants.{Pext1, Pext2, Luti4c, Luti4s};
-ghost use Rattle.fields.specs.Operands.{pselAs, narrowAs};
+ghost use Rattle.encoding.specs.declared.Instruction.the-variants.{Luti4c, Luti4s};
+ghost use Rattle.fields.specs.Operands.{pextAs, pselAs, narrowAs};
 
-// The fields of PEXT and LUTI4, the size by its log too; the immediate is a portion or i1.
-pub struct Operands {
-    pub size: u32,
+// PEXT's, whose size is 8 · 2^log.
+pub struct PextOperands {
     pub log: u32,
-    pub immediate: u32,
-    pub source: u32,
-    pub destination: u32,
+    pub first: u32,
+    pub portions: u32,
+    pub counter: u32,
+    pub pd: u32,
 }
 
-// PSEL's, whose size is 8 · 2^log; a log of 4 or more is none.
+// PSEL's, by the log too; one of 4 or more is no size's.
 pub struct PselOperands {
     pub log: u32,
     pub offset: u32,
@@ -26,6 +26,14 @@ pub struct PselOperands {
     pub pn: u32,
     pub pm: u32,
     pub pd: u32,
+}
+
+// LUTI4's.
+pub struct LutiOperands {
+    pub size: u32,
+    pub i1: u32,
+    pub zn: u32,
+    pub zd: u32,
 }
 
 // The narrowing words'; the size is the result's.
@@ -40,14 +48,6 @@ pub struct NarrowOperands {
     pub zd: u32,
 }
 
-// The element size of a size field of two bits, which is its log.
-fn element_size(log: u32) -> u32
-    requires { ⌜ log < 4 ⌝ }
-    ensures { λ r. ⌜ r ≡ 8 * 2 ^ log ⌝ }
-{
-    8 << log
-}
-
 // PSEL's tszh:tszl.
 fn psel_tsz(word: u32) -> u32
     ensures { λ r. ⌜ r ≡ word / 0x400000 % 2 * 8 + word / 0x40000 % 8 ⌝ }
@@ -55,11 +55,11 @@ fn psel_tsz(word: u32) -> u32
     word / 0x400000 % 2 * 8 + word / 0x40000 % 8
 }
 
-// LUTI4's size field, in both layouts.
+// LUTI4's size, in both layouts: a field of two bits.
 fn luti_size(word: u32) -> u32
-    ensures { λ r. ⌜ (r ≡ word / 0x1000 % 4) × (r < 4) ⌝ }
+    ensures { λ r. ⌜ r ≡ 8 * 2 ^ (word / 0x1000 % 4) ⌝ }
 {
-    word / 0x1000 % 4
+    8 << (word / 0x1000 % 4)
 }
 
 // The narrowing words' tszh:tszl, and the result size that it says.
@@ -78,33 +78,29 @@ fn narrow_size(tsz: u32) -> u32
     if tsz < 4 { 16 } else { 32 }
 }
 
-pub fn pext1(word: u32) -> Operands
-    ensures { λ r. ⌜ (accept (Pext1 (r .size) (r .immediate) (r .source) (r .destination)) ≡ readAt rows 0 word) × (r .log ≡ logOf (r .size)) ⌝ }
+// By the row of one portion, or by that of a pair.
+pub fn pext(pair: bool, word: u32) -> PextOperands
+    ensures { λ r. ⌜ accept (pextAs r) ≡ readAt rows (pick pair 1 0) word ⌝ }
 {
     let log = word / 0x400000 % 4;
-    let size = element_size(log);
-    let source = 8 + word / 32 % 8;
-    Operands {
-        size,
-        log,
-        immediate: word / 0x100 % 4,
-        source,
-        destination: word % 16,
+    let counter = 8 + word / 32 % 8;
+    let pd = word % 16;
+    if pair {
+        let first = 2 * (word / 0x100 % 2);
+        return PextOperands {
+            log,
+            first,
+            portions: 2,
+            counter,
+            pd,
+        };
     }
-}
-
-pub fn pext2(word: u32) -> Operands
-    ensures { λ r. ⌜ (accept (Pext2 (r .size) (r .immediate) (r .source) (r .destination)) ≡ readAt rows 1 word) × (r .log ≡ logOf (r .size)) ⌝ }
-{
-    let log = word / 0x400000 % 4;
-    let size = element_size(log);
-    let source = 8 + word / 32 % 8;
-    Operands {
-        size,
+    PextOperands {
         log,
-        immediate: word / 0x100 % 2,
-        source,
-        destination: word % 16,
+        first: word / 0x100 % 4,
+        portions: 1,
+        counter,
+        pd,
     }
 }
 
@@ -135,33 +131,29 @@ pub fn psel(word: u32) -> PselOperands
     }
 }
 
-pub fn luti4c(word: u32) -> Operands
-    ensures { λ r. ⌜ (accept (Luti4c (r .size) (r .immediate) (r .source) (r .destination)) ≡ readAt rows 3 word) × (r .log ≡ logOf (r .size)) ⌝ }
+pub fn luti4c(word: u32) -> LutiOperands
+    ensures { λ r. ⌜ accept (Luti4c (r .size) (r .i1) (r .zn) (r .zd)) ≡ readAt rows 3 word ⌝ }
 {
-    let log = luti_size(word);
-    let size = element_size(log);
-    let destination = 4 * (word / 4 % 8);
-    Operands {
+    let size = luti_size(word);
+    let zd = 4 * (word / 4 % 8);
+    LutiOperands {
         size,
-        log,
-        immediate: word / 0x10000 % 2,
-        source: word / 32 % 32,
-        destination,
+        i1: word / 0x10000 % 2,
+        zn: word / 32 % 32,
+        zd,
     }
 }
 
-pub fn luti4s(word: u32) -> Operands
-    ensures { λ r. ⌜ (accept (Luti4s (r .size) (r .immediate) (r .source) (r .destination)) ≡ readAt rows 4 word) × (r .log ≡ logOf (r .size)) ⌝ }
+pub fn luti4s(word: u32) -> LutiOperands
+    ensures { λ r. ⌜ accept (Luti4s (r .size) (r .i1) (r .zn) (r .zd)) ≡ readAt rows 4 word ⌝ }
 {
-    let log = luti_size(word);
-    let size = element_size(log);
-    let destination = 16 * (word / 16 % 2) + word % 4;
-    Operands {
+    let size = luti_size(word);
+    let zd = 16 * (word / 16 % 2) + word % 4;
+    LutiOperands {
         size,
-        log,
-        immediate: word / 0x10000 % 2,
-        source: word / 32 % 32,
-        destination,
+        i1: word / 0x10000 % 2,
+        zn: word / 32 % 32,
+        zd,
     }
 }
 

@@ -4,42 +4,34 @@ ghost use mathlib.Core.Path.{_≡_};
 ghost use mathlib.Core.List.{[], _∷_};
 ghost use Prim.Native.Nat.{_-_, _≤_, _<_};
 ghost use lib.ListN.{getD};
+ghost use Rattle.logic.specs.Pick.{pick};
 ghost use Rattle.machine.specs.Private.{PredicateWord, VectorWord, TablelessWord, HasV, HasVS, HasST, HasWV};
 use setting::Answer;
 use setting::Setting;
 
 // ---- the predicates
-pub(crate) fn pext1(p: &mut [u8], setting: Setting, v: bool, s: bool, word: u32) -> Answer
-    ensures { λ r. ⌜ PredicateWord 0 setting word (HasVS v s) r (now (p .entry)) (now (p .exit)) ⌝ }
+// By the row of one portion, or by that of a pair.
+pub(crate) fn pext(
+    p: &mut [u8],
+    setting: Setting,
+    v: bool,
+    s: bool,
+    pair: bool,
+    word: u32,
+) -> Answer
+    ensures { λ r. ⌜ PredicateWord (pick pair 1 0) setting word (HasVS v s) r (now (p .entry)) (now (p .exit)) ⌝ }
 {
-    let o = fields::pext1(word);
+    let o = fields::pext(pair, word);
     words::pext(
         p,
         setting,
         v,
         s,
         o.log,
-        o.immediate,
-        1,
-        o.source,
-        o.destination,
-    )
-}
-
-pub(crate) fn pext2(p: &mut [u8], setting: Setting, v: bool, s: bool, word: u32) -> Answer
-    ensures { λ r. ⌜ PredicateWord 1 setting word (HasVS v s) r (now (p .entry)) (now (p .exit)) ⌝ }
-{
-    let o = fields::pext2(word);
-    words::pext(
-        p,
-        setting,
-        v,
-        s,
-        o.log,
-        2 * o.immediate,
-        2,
-        o.source,
-        o.destination,
+        o.first,
+        o.portions,
+        o.counter,
+        o.pd,
     )
 }
 
@@ -82,18 +74,7 @@ pub(crate) fn luti4c(
     ensures { λ r. ⌜ VectorWord 3 setting word (HasST s t) r (now (zt .entry)) (now (z .entry)) (now (z .exit)) ⌝ }
 {
     let o = fields::luti4c(word);
-    words::luti4(
-        z,
-        zt,
-        setting.vl,
-        s,
-        t,
-        o.size,
-        o.immediate,
-        o.source,
-        o.destination,
-        1,
-    )
+    words::luti4(z, zt, setting.vl, s, t, o.size, o.i1, o.zn, o.zd, 1)
 }
 
 pub(crate) fn luti4s(
@@ -107,18 +88,7 @@ pub(crate) fn luti4s(
     ensures { λ r. ⌜ VectorWord 4 setting word (HasST s t) r (now (zt .entry)) (now (z .entry)) (now (z .exit)) ⌝ }
 {
     let o = fields::luti4s(word);
-    words::luti4(
-        z,
-        zt,
-        setting.vl,
-        s,
-        t,
-        o.size,
-        o.immediate,
-        o.source,
-        o.destination,
-        4,
-    )
+    words::luti4(z, zt, setting.vl, s, t, o.size, o.i1, o.zn, o.zd, 4)
 }
 
 pub(crate) fn narrow(z: &mut [u8], setting: Setting, v: bool, word: u32) -> Answer

@@ -94,8 +94,8 @@ fn step_in_run(
 {
     let place = decoder::place(setting.features, word);
     match place {
-        0 => forms::pext1(p, setting, scalars.v, scalars.s, word),
-        1 => forms::pext2(p, setting, scalars.v, scalars.s, word),
+        0 => forms::pext(p, setting, scalars.v, scalars.s, false, word),
+        1 => forms::pext(p, setting, scalars.v, scalars.s, true, word),
         2 => forms::psel(
             p,
             setting,

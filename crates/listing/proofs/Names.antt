@@ -1,6 +1,7 @@
 -- A word's name is the one at its index in the code's table: by its form, and of a narrowing word by its four bits, each combination computed.
 use mathlib.Core.Path.{_≡_, refl, ap, _∙_}
 use mathlib.Core.Bool.{Bool, true, false}
+use mathlib.Core.List.{List}
 use Prim.Native.Nat.{ℕ, _+_, _/_, _%_, _≤_}
 use native.Mathlib.Omega.{arith}
 use lib.Dec.{eqb}
@@ -10,11 +11,11 @@ use Rattle.setting.specs.Numbers.{Outcome, accept, refuse}
 use Rattle.element.specs.Contents.{digit}
 use Rattle.encoding.specs.Instructions.{isSet, narrowNumber}
 use Rattle.encoding.specs.Names.{narrowLetters}
-use Rattle.encoding.specs.Rows.{rows}
+use Rattle.encoding.specs.Rows.{rows, pext1, pext2}
 use Rattle.encoding.specs.Places.{placeIn}
 use Rattle.encoding.specs.Decode.{decodeOf}
 use Rattle.encoding.specs.declared.Instruction.{Instruction}
-use Rattle.encoding.specs.declared.Instruction.the-variants.{Pext1, Pext2, Psel, Luti4c, Luti4s, Narrow}
+use Rattle.encoding.specs.declared.Instruction.the-variants.{Pext, Psel, Luti4c, Luti4s, Narrow}
 use Rattle.encoding.proofs.Round.{place-lt}
 use Rattle.encoding.proofs.FourBits.{FourBits, four-bits}
 use Rattle.encoding.specs.Named.{nameIn}
@@ -51,9 +52,13 @@ flags-named true true false true = refl
 flags-named true true true false = refl
 flags-named true true true true = refl
 
+-- by the row of a pair, or of one portion
+pext-named : (pair : Bool) (xs : List ℕ) (n : ℕ) → (nameAt (indexOf (pick pair 1 0) n) ≡ pick pair pext2 pext1 .name xs) × (indexOf (pick pair 1 0) n ≤ length names)
+pext-named true xs n = (refl, omega arith)
+pext-named false xs n = (refl, omega arith)
+
 named : (w : ℕ) (o : Outcome Instruction) → ((i : Instruction) → o ≡ accept i → FourBits w i) → (nameAt (indexOf (placeIn o) (w / 0x400 % 16)) ≡ nameIn o) × (indexOf (placeIn o) (w / 0x400 % 16) ≤ length names)
-named w (accept (Pext1 size imm2 counter pd)) f = (refl, omega arith)
-named w (accept (Pext2 size i1 counter pd)) f = (refl, omega arith)
+named w (accept (Pext size first portions counter pd)) f = pext-named (eqb portions 2) _ (w / 0x400 % 16)
 named w (accept (Psel size offset index pn pm pd)) f = (refl, omega arith)
 named w (accept (Luti4c size i1 zn zd)) f = (refl, omega arith)
 named w (accept (Luti4s size i1 zn zd)) f = (refl, omega arith)

@@ -1,1 +1,1 @@
-// What every definition may use: a choice by a test, every fact of a list, every number below a bound. There is no code.
+// What every definition may use: a choice by a test, every fact of a list, a test or a thing for each number below a bound. There is no code.

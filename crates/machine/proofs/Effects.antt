@@ -1,4 +1,4 @@
--- What every instruction's page meets, a clause for each: its needs are refused with 6 at most, it writes something and no scalar, and it touches registers that there are.
+-- What every instruction's page meets, a clause for each: its needs are refused with 6 at most, and with fields in range it writes something and no scalar, and touches registers that there are.
 use mathlib.Core.Path.{_≡_, refl}
 use mathlib.Core.Bool.{Bool, true, false, _&&_, _||_}
 use mathlib.Core.List.{List, [], _∷_}
@@ -16,11 +16,12 @@ use Rattle.order.specs.Banks.{Register}
 use Rattle.order.specs.Touch.{puts}
 use Rattle.encoding.specs.Instructions.{inRange}
 use Rattle.encoding.specs.declared.Instruction.{Instruction}
-use Rattle.encoding.specs.declared.Instruction.the-variants.{Pext1, Pext2, Psel, Luti4c, Luti4s, Narrow}
+use Rattle.encoding.specs.declared.Instruction.the-variants.{Pext, Psel, Luti4c, Luti4s, Narrow}
 use Rattle.encoding.proofs.FieldBits.{strided-zd}
-use Rattle.encoding.proofs.InRange.{pext-ranges, psel-ranges, luti-ranges, narrow-ranges}
+use Rattle.encoding.proofs.InRange.{pext-ranges, portions-cases, psel-ranges, luti-ranges, narrow-ranges}
 use Rattle.machine.specs.Machine.{Machine, Z, ZT0, put, Flags}
 use Rattle.machine.specs.Needs.{Need, need}
+use Rattle.machine.specs.Pext.{pextWrites}
 use Rattle.machine.specs.Narrow.{narrowReads}
 use Rattle.machine.specs.Effects.{effectOf}
 
@@ -42,8 +43,8 @@ AllKnown (r ∷ rs) = Known r × AllKnown rs
 
 pub record Fine (i : Instruction) : Type 0 where
   pub refused-small : (s : Setting) (f : Flags) → T (atMostSix (effectOf i .needs s f))
-  pub writes-some : 0 < length (effectOf i .writes)
-  pub contents-only : (vl : ℕ) (cs : List (List ℕ)) (m : Machine) → puts (put vl) (effectOf i .writes) (effectOf i .gives vl cs) m .scalars ≡ m .scalars
+  pub writes-some : inRange i ≡ true → 0 < length (effectOf i .writes)
+  pub contents-only : inRange i ≡ true → (vl : ℕ) (cs : List (List ℕ)) (m : Machine) → puts (put vl) (effectOf i .writes) (effectOf i .gives vl cs) m .scalars ≡ m .scalars
   pub known : inRange i ≡ true → AllKnown (effectOf i .reads) × AllKnown (effectOf i .writes)
 
 -- V or S, by a feature
@@ -62,28 +63,26 @@ narrow-known false zn zd hn hd = search (hn, hd)
 
 pub fine : (i : Instruction) → Fine i
 unfolding puts put
-fine (Pext1 size imm2 counter pd) = record {
+fine (Pext size first portions counter pd) = record {
   refused-small = λ s f. by-feature (hasFeature (s .features) Sve2p1) f;
-  writes-some = omega arith;
-  contents-only = λ vl cs m. refl;
-  known = λ e. let g = pext-ranges 4 size imm2 counter pd e in search (g .counter-lt, g .pd-lt);
-}
-fine (Pext2 size i1 counter pd) = record {
-  refused-small = λ s f. by-feature (hasFeature (s .features) Sve2p1) f;
-  writes-some = omega arith;
-  contents-only = λ vl cs m. refl;
-  known = λ e. let g = pext-ranges 2 size i1 counter pd e in let next : (pd + 1) % 16 < 16 = omega arith in search (g .counter-lt, g .pd-lt, next);
+  writes-some = λ e. portions-cases (λ f n. 0 < length (pextWrites n pd)) (λ imm2 h. omega arith) (λ i1 h. omega arith) first portions (pext-ranges size first portions counter pd e .some);
+  contents-only = λ e vl cs m.
+      portions-cases (λ f n. puts (put vl) (pextWrites n pd) (effectOf (Pext size f n counter pd) .gives vl cs) m .scalars ≡ m .scalars) (λ imm2 h. refl) (λ i1 h. refl)
+      first portions (pext-ranges size first portions counter pd e .some);
+  known = λ e.
+      let g = pext-ranges size first portions counter pd e in
+      ((g .counter-lt, tt), portions-cases (λ f n. AllKnown (pextWrites n pd)) (λ imm2 h. (omega arith, tt)) (λ i1 h. (omega arith, (omega arith, tt))) first portions (g .some));
 }
 fine (Psel size offset index pn pm pd) = record {
   refused-small = λ s f. tt;
-  writes-some = omega arith;
-  contents-only = λ vl cs m. refl;
+  writes-some = λ e. omega arith;
+  contents-only = λ e vl cs m. refl;
   known = λ e. let g = psel-ranges size offset index pn pm pd e in let w : index - 12 < 4 = omega (arith, g .index-ge, g .index-lt) in search (g .pn-lt, g .pm-lt, w, g .pd-lt);
 }
 fine (Luti4c size i1 zn zd) = record {
   refused-small = λ s f. tt;
-  writes-some = omega arith;
-  contents-only = λ vl cs m. refl;
+  writes-some = λ e. omega arith;
+  contents-only = λ e vl cs m. refl;
   known = λ e.
       let g = luti-ranges (eqb size 16 || eqb size 32) i1 zn (eqb (zd % 4) 0 && leb zd 28) e in
       let most = leb-true zd 28 (both-yes (eqb (zd % 4) 0) (leb zd 28) (g .3) .1) in
@@ -92,8 +91,8 @@ fine (Luti4c size i1 zn zd) = record {
 }
 fine (Luti4s size i1 zn zd) = record {
   refused-small = λ s f. tt;
-  writes-some = omega arith;
-  contents-only = λ vl cs m. refl;
+  writes-some = λ e. omega arith;
+  contents-only = λ e vl cs m. refl;
   known = λ e.
       let g = luti-ranges (eqb size 16) i1 zn (ltb zd 4 || (leb 16 zd && ltb zd 20)) e in
       let d = strided-zd zd (g .3) in
@@ -102,7 +101,7 @@ fine (Luti4s size i1 zn zd) = record {
 }
 fine (Narrow op u r t size shift zn zd) = record {
   refused-small = λ s f. tt;
-  writes-some = omega arith;
-  contents-only = λ vl cs m. refl;
+  writes-some = λ e. omega arith;
+  contents-only = λ e vl cs m. refl;
   known = λ e. let g = narrow-ranges size shift zn zd e in (narrow-known t zn zd (g .2) (g .3), (g .3, tt));
 }

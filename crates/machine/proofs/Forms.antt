@@ -2,7 +2,7 @@
 use mathlib.Core.Path.{_≡_, refl, sym, ap, _∙_}
 use mathlib.Core.Bool.{Bool}
 use mathlib.Core.List.{List, [], _∷_}
-use Prim.Native.Nat.{ℕ, zero, suc, _-_, _*_, _≤_}
+use Prim.Native.Nat.{ℕ, zero, suc, _-_, _≤_}
 use native.Mathlib.Omega.{arith}
 use lib.ListN.{length, getD}
 use Rattle.setting.specs.Allowed.{hasFeature}
@@ -15,7 +15,7 @@ use Rattle.encoding.specs.Rows.{rows}
 use Rattle.encoding.specs.Places.{placeFirst}
 use Rattle.encoding.specs.Decode.{firstOf, readAt}
 use Rattle.encoding.specs.declared.Instruction.{Instruction}
-use Rattle.encoding.specs.declared.Instruction.the-variants.{Pext1, Pext2, Psel, Luti4c, Luti4s, Narrow}
+use Rattle.encoding.specs.declared.Instruction.the-variants.{Pext, Psel, Luti4c, Luti4s, Narrow}
 use Rattle.encoding.proofs.Choice.{read-past, first-is-read}
 use Rattle.pext.specs.Pext.{pextLeaves}
 use Rattle.psel.specs.Psel.{pselLeaves}
@@ -28,7 +28,7 @@ use Rattle.machine.specs.Step.{Step, stepOf, stepAs}
 use Rattle.machine.specs.Private.{Ready, Known, PredicateWord, VectorWord, TablelessWord, HasV, HasVS, HasST, HasWV, doneOf, executedOf, movedBy}
 use Rattle.machine.specs.declared.Scalars.{Scalars}
 use Rattle.machine.proofs.Steps.{refused-for, done-for, step-executes, step-ready, step-undefined}
-use Rattle.machine.proofs.Operations.{pext1-done, pext2-done, psel-done, luti4c-done, luti4s-done, narrow-done}
+use Rattle.machine.proofs.Operations.{pext-done, psel-done, luti4c-done, luti4s-done, narrow-done}
 
 -- ---- what a known row reads is what the word is read as
 first-at : (s : Setting) (w k : ℕ) (o : Outcome Instruction) → k ≡ placeFirst rows (s .features) w → readAt rows k w ≡ o → firstOf rows (s .features) w ≡ o
@@ -60,16 +60,12 @@ module _ (s : Setting) (w k : ℕ) (i : Instruction) (read : readAt rows k w ≡
 
 -- ---- each form
 module _ (s : Setting) (w : ℕ) (r : Answer) (p p′ : List ℕ) where
-  module _ (v f : Bool) (size immediate counter pd : ℕ) (answer : numberOf r ≡ firstFailed (pick (hasFeature (s .features) Sve2p1) (need 4 v) (need 5 f) ∷ [])) where
-    pub pext1-word : readAt rows 0 w ≡ accept (Pext1 size immediate counter pd) → p′ ≡ ifDone (numberOf r) (pextLeaves (s .vl) size immediate 1 counter pd p) p → PredicateWord 0 s w (HasVS v f) r p p′
-    pext1-word e q z zt c has known =
-        on-predicates s w 0 _ e z p zt c known p′ _ (numberOf r) (rw (has .0, has .1) answer) q
-        (pext1-done z p _ zt c (s .vl) size immediate counter pd (ready s w 0 _ e z p zt c known) refl)
-
-    pub pext2-word : readAt rows 1 w ≡ accept (Pext2 size immediate counter pd) → p′ ≡ ifDone (numberOf r) (pextLeaves (s .vl) size (2 * immediate) 2 counter pd p) p → PredicateWord 1 s w (HasVS v f) r p p′
-    pext2-word e q z zt c has known =
-        on-predicates s w 1 _ e z p zt c known p′ _ (numberOf r) (rw (has .0, has .1) answer) q
-        (pext2-done z p _ zt c (s .vl) size immediate counter pd (ready s w 1 _ e z p zt c known) refl)
+  -- by either row of it
+  pub pext-word : (k : ℕ) (v f : Bool) (size first portions counter pd : ℕ) → numberOf r ≡ firstFailed (pick (hasFeature (s .features) Sve2p1) (need 4 v) (need 5 f) ∷ [])
+      → readAt rows k w ≡ accept (Pext size first portions counter pd) → p′ ≡ ifDone (numberOf r) (pextLeaves (s .vl) size first portions counter pd p) p → PredicateWord k s w (HasVS v f) r p p′
+  pext-word k v f size first portions counter pd answer e q z zt c has known =
+      on-predicates s w k _ e z p zt c known p′ _ (numberOf r) (rw (has .0, has .1) answer) q
+      (pext-done z p _ zt c (s .vl) size first portions counter pd (ready s w k _ e z p zt c known) refl)
 
   pub psel-word : (w12 w13 w14 w15 : ℕ) (v : Bool) (x size offset index pn pm pd : ℕ) → numberOf r ≡ pick v 0 4 → readAt rows 2 w ≡ accept (Psel size offset index pn pm pd)
       → x ≡ getD (w12 ∷ w13 ∷ w14 ∷ w15 ∷ []) (index - 12) 0 → p′ ≡ ifDone (numberOf r) (pselLeaves (s .vl) size x offset pn pm pd p) p → PredicateWord 2 s w (HasWV w12 w13 w14 w15 v) r p p′

@@ -8,6 +8,7 @@ use Rattle.order.specs.Steps.{Ended, steps}
 use Rattle.order.specs.Touch.{perform, puts}
 use Rattle.encoding.specs.Decode.{decodeOf}
 use Rattle.encoding.specs.declared.Instruction.{Instruction}
+use Rattle.encoding.proofs.Round.{read-in-range}
 use Rattle.machine.specs.Machine.{Machine, scalarsOf, next, advanced}
 use Rattle.machine.specs.Step.{Step, refusalOf, execOf, after, stepOf, stepAs, steppedAs}
 use Rattle.machine.specs.Run.{refusedBefore, begun, runOf, runAs, ranAs, movedOn}
@@ -22,7 +23,7 @@ unfolding execOf perform next puts
 word-moves s w m = go (decodeOf s w) refl
   where
     go : (o : Outcome Instruction) → decodeOf s w ≡ o → execOf s w m .scalars ≡ advanced (m .scalars)
-    go (accept i) e = rw e (ap advanced (fine i .contents-only (s .vl) _ m))
+    go (accept i) e = rw e (ap advanced (fine i .contents-only (read-in-range s i w e) (s .vl) _ m))
     go (refuse n) e = rw e
 
 one-more : (s : Setting) (c : Scalars) (w n : ℕ) (m : Machine) → m .scalars ≡ movedOn n c → execOf s w m .scalars ≡ movedOn (suc n) c

@@ -18,8 +18,8 @@ use Rattle.encoding.specs.Instructions.{inRange, pextInRange, pselInRange, narr
 use Rattle.element.proofs.Tests.{both-yes}
 use Rattle.element.proofs.Units.{size-cases}
 use Rattle.encoding.proofs.FieldBits.{strided-zd}
-use Rattle.encoding.proofs.InRange.{pext-ranges, psel-ranges, luti-ranges, narrow-ranges}
-use Rattle.encoding.specs.declared.Instruction.the-variants.{Pext1, Pext2, Psel, Luti4c, Luti4s, Narrow}
+use Rattle.encoding.proofs.InRange.{pext-ranges, portions-cases, psel-ranges, luti-ranges, narrow-ranges}
+use Rattle.encoding.specs.declared.Instruction.the-variants.{Pext, Psel, Luti4c, Luti4s, Narrow}
 use Rattle.pext.specs.Pext.{pextReady, pextSlots, pextLeaves}
 use Rattle.psel.specs.Psel.{pselReady, pselLeaves}
 use Rattle.lookup.specs.Lookup.{lutiFile}
@@ -30,17 +30,13 @@ use Rattle.machine.specs.Machine.{machine, get, put}
 use Rattle.machine.specs.Private.{Ready, doneOf}
 use Rattle.machine.specs.declared.Scalars.{Scalars}
 
-size-of-pext : (bound size portion counter pd : ℕ) → pextInRange bound size portion counter pd ≡ true → isSize size ≡ true
-size-of-pext bound size portion counter pd e =
-    both-yes (isSize size) (ltb portion bound) (both-yes (isSize size && ltb portion bound) (leb 8 counter && ltb counter 16) (both-yes (isSize size && ltb portion bound && (leb 8 counter && ltb counter 16)) (ltb pd 16) e .0) .0) .0
-
 -- the tests of the leaves hold
-pext-ready : (bound size portion counter pd first n vl : ℕ) → pextInRange bound size portion counter pd ≡ true → (eqb n 1 || eqb n 2) ≡ true → first + n ≤ 4 → lengthAllowed vl ≡ true
-    → pextReady predicateFile vl size first n counter pd ≡ true
+pext-ready : (size first portions counter pd vl : ℕ) → pextInRange size first portions counter pd ≡ true → lengthAllowed vl ≡ true → pextReady predicateFile vl size first portions counter pd ≡ true
 unfolding pextReady
-pext-ready bound size portion counter pd first n vl e h l a =
-    let g = pext-ranges bound size portion counter pd e in
-    rw (a, size-of-pext bound size portion counter pd e, h, le-leb (first + n) 4 l, lt-ltb counter 16 (g .counter-lt), lt-ltb pd 16 (g .pd-lt))
+pext-ready size first portions counter pd vl e a =
+    let g = pext-ranges size first portions counter pd e in
+    let few = portions-cases (λ f n. ((eqb n 1 || eqb n 2) ≡ true) × (f + n ≤ 4)) (λ imm2 h. (refl, omega arith)) (λ i1 h. (refl, omega arith)) first portions (g .some) in
+    rw (a, g .sized, few .0, le-leb (first + portions) 4 (few .1), lt-ltb counter 16 (g .counter-lt), lt-ltb pd 16 (g .pd-lt))
 
 psel-ready : (size offset index pn pm pd vl : ℕ) → pselInRange size offset index pn pm pd ≡ true → lengthAllowed vl ≡ true → pselReady predicateFile vl size offset pn pm pd ≡ true
 unfolding pselReady
@@ -90,21 +86,13 @@ whole-table : (t : List ℕ) → length t ≡ tableFile → slice (tableFile * 0
 whole-table t h = take-all tableFile t (omega arith)
 
 module _ (z p p′ zt : List ℕ) (s : Scalars) (vl : ℕ) where
-  pub pext1-done : (size imm2 counter pd : ℕ) → Ready (length z) (length p) (length zt) vl (Pext1 size imm2 counter pd) → p′ ≡ pextLeaves vl size imm2 1 counter pd p
-      → machine z p′ zt s ≡ doneOf vl (Pext1 size imm2 counter pd) (machine z p zt s)
+  pub pext-done : (size first portions counter pd : ℕ) → Ready (length z) (length p) (length zt) vl (Pext size first portions counter pd) → p′ ≡ pextLeaves vl size first portions counter pd p
+      → machine z p′ zt s ≡ doneOf vl (Pext size first portions counter pd) (machine z p zt s)
   unfolding doneOf gets puts get put pextLeaves pextSlots
-  pext1-done size imm2 counter pd r e =
-      let g = pext-ranges 4 size imm2 counter pd (r .range) in
-      let d : (pd + 0) % 16 ≡ pd = omega (arith, g .pd-lt) in
-      rw (e, r .predicates, pext-ready 4 size imm2 counter pd imm2 1 vl (r .range) refl (omega (arith, g .portion-lt)) (r .length), d, add-zero imm2)
-
-  pub pext2-done : (size i1 counter pd : ℕ) → Ready (length z) (length p) (length zt) vl (Pext2 size i1 counter pd) → p′ ≡ pextLeaves vl size (2 * i1) 2 counter pd p
-      → machine z p′ zt s ≡ doneOf vl (Pext2 size i1 counter pd) (machine z p zt s)
-  unfolding doneOf gets puts get put pextLeaves pextSlots
-  pext2-done size i1 counter pd r e =
-      let g = pext-ranges 2 size i1 counter pd (r .range) in
-      let d : (pd + 0) % 16 ≡ pd = omega (arith, g .pd-lt) in
-      rw (e, r .predicates, pext-ready 2 size i1 counter pd (2 * i1) 2 vl (r .range) refl (omega (arith, g .portion-lt)) (r .length), d, add-zero (2 * i1))
+  pext-done size first portions counter pd r e =
+      portions-cases (λ f n. pextReady predicateFile vl size f n counter pd ≡ true → p′ ≡ pextLeaves vl size f n counter pd p → machine z p′ zt s ≡ doneOf vl (Pext size f n counter pd) (machine z p zt s))
+      (λ imm2 h y q. rw (q, r .predicates, y)) (λ i1 h y q. rw (q, r .predicates, y))
+      first portions (pext-ranges size first portions counter pd (r .range) .some) (pext-ready size first portions counter pd vl (r .range) (r .length)) e
 
   pub psel-done : (size offset index pn pm pd w : ℕ) → Ready (length z) (length p) (length zt) vl (Psel size offset index pn pm pd)
       → w ≡ getD (s .w12 ∷ s .w13 ∷ s .w14 ∷ s .w15 ∷ []) (index - 12) 0 → p′ ≡ pselLeaves vl size w offset pn pm pd p

@@ -1,4 +1,4 @@
--- What `claims` promises of the definitions: the numbers that a step and a run answer, the run of one word, the laws of the registers, what a run leaves of the scalars, the starred cases, what PSEL words read and give, and what narrowing words touch.
+-- What `claims` promises of the definitions: the numbers that a step and a run answer, the run of one word, the laws of the registers, what a run leaves of the scalars, the starred cases, what PEXT and PSEL words touch and give, and what narrowing words touch.
 use mathlib.Core.Path.{_≡_}
 use mathlib.Core.Logic.{_⊎_}
 use mathlib.Core.List.{List, [], _∷_}
@@ -10,7 +10,7 @@ use Rattle.order.specs.Touch.{SeparateRegisters}
 use Rattle.machine.specs.Machine.{Machine, get, put, next, flagsOf}
 use Rattle.machine.specs.Step.{stepOf}
 use Rattle.machine.specs.Run.{runOf, ranOnce, movedOn}
-use Rattle.machine.specs.Points.{starred, pselWords, narrowTouches}
+use Rattle.machine.specs.Points.{starred, predicateWords, narrowTouches}
 
 -- document 02, request 3: a step answers 0 to 6
 abbrev pub StepAnswers : Type 0
@@ -39,5 +39,5 @@ pub record Claims : Type 0 where
   pub registers : RegisterLaws
   pub moves : RunMovesPc
   pub starred : Every starred
-  pub psel-words : Every pselWords
+  pub predicate-words : Every predicateWords
   pub narrow-touches : Every narrowTouches

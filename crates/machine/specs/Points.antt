@@ -18,10 +18,13 @@ elementPoints =
     ∷ (gives board 0x252c4000 ((0xa5 ∷ 0x3c ∷ []) ∷ (0xfe ∷ 0xff ∷ []) ∷ (0xffffffff ∷ []) ∷ []) ≡ (0x00 ∷ 0x00 ∷ []) ∷ [])
     ∷ []
 
+-- 11, not starred: 2520741f writes P15 and P0; and of the counter 8021, whose portion 0 is all false, it gives portion 1, all true, second
 -- document 02, request 2: 25e04000, whose elements are bits 0 and 8, copies the bits between them too; with W12 = 0 element 1 of Pm alone true, and it alone false
-abbrev pub pselWords : List (Type 0)
-pselWords =
-    (gives board 0x25e04000 ((0xa5 ∷ 0x3c ∷ []) ∷ (0x00 ∷ 0x01 ∷ []) ∷ (0 ∷ []) ∷ []) ≡ (0xa5 ∷ 0x3c ∷ []) ∷ [])
+abbrev pub predicateWords : List (Type 0)
+predicateWords =
+    (writes board 0x2520741f ≡ P 15 ∷ P 0 ∷ [])
+    ∷ (gives board 0x2520741f ((0x21 ∷ 0x80 ∷ []) ∷ []) ≡ (0x00 ∷ 0x00 ∷ []) ∷ (0xff ∷ 0xff ∷ []) ∷ [])
+    ∷ (gives board 0x25e04000 ((0xa5 ∷ 0x3c ∷ []) ∷ (0x00 ∷ 0x01 ∷ []) ∷ (0 ∷ []) ∷ []) ≡ (0xa5 ∷ 0x3c ∷ []) ∷ [])
     ∷ (gives board 0x25e04000 ((0xa5 ∷ 0x3c ∷ []) ∷ (0xff ∷ 0xfe ∷ []) ∷ (0 ∷ []) ∷ []) ≡ (0x00 ∷ 0x00 ∷ []) ∷ [])
     -- 25244443: Pn is P1, Pm is P2, Pd is P3
     ∷ (reads board 0x25244443 ≡ P 1 ∷ P 2 ∷ W 12 ∷ [])

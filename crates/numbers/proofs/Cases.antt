@@ -8,15 +8,14 @@ use borrow.Author.Tests.{eq-eqb, ne-eqb}
 use Rattle.setting.specs.Numbers.{Outcome, accept, refuse}
 use Rattle.encoding.specs.Instructions.{narrowNumber}
 use Rattle.encoding.specs.declared.Instruction.{Instruction}
-use Rattle.encoding.specs.declared.Instruction.the-variants.{Pext1, Pext2, Psel, Luti4c, Luti4s, Narrow}
+use Rattle.encoding.specs.declared.Instruction.the-variants.{Pext, Psel, Luti4c, Luti4s, Narrow}
 use Rattle.element.proofs.Spelled.{spelled}
 use Rattle.numbers.specs.Fields.{numbersOf, numbersInto, narrowAt, instructionAt, instructionOf}
-use Rattle.numbers.specs.Claims.{NumbersRead, FiveUnused}
+use Rattle.numbers.specs.Claims.{NumbersRead, RetiredUnused}
 
 -- ---- reading
 seven : (i : Instruction) → length (numbersOf i) ≡ 7
-seven (Pext1 size imm2 counter pd) = refl
-seven (Pext2 size i1 counter pd) = refl
+seven (Pext size first portions counter pd) = refl
 seven (Psel size offset index pn pm pd) = refl
 seven (Luti4c size i1 zn zd) = refl
 seven (Luti4s size i1 zn zd) = refl
@@ -41,14 +40,13 @@ flags-read false false true false size shift zn zd = refl
 flags-read false false false true size shift zn zd = refl
 flags-read false false false false size shift zn zd = refl
 
-pub five-unused : FiveUnused
-five-unused a b c d e f = refl
+pub retired-unused : RetiredUnused
+retired-unused = (λ a b c d e f. refl, (λ a b c d e f. refl, (λ a b c d e f. refl, tt)))
 
 -- read back: of each form by computing
 pub numbers-read : NumbersRead
 unfolding instructionOf
-numbers-read (Pext1 size imm2 counter pd) = refl
-numbers-read (Pext2 size i1 counter pd) = refl
+numbers-read (Pext size first portions counter pd) = refl
 numbers-read (Psel size offset index pn pm pd) = refl
 numbers-read (Luti4c size i1 zn zd) = refl
 numbers-read (Luti4s size i1 zn zd) = refl

@@ -1,4 +1,4 @@
--- Document 01, "Fields as read": an instruction as seven numbers, its form's and its fields in the order of the definition, 0 behind them. A form keeps its number for good: 5 was UQRSHRNB's, and is not used again.
+-- Document 01, "Fields as read": an instruction as seven numbers, its form's and its fields in the order of the definition, 0 behind them. A form keeps its number for good, and no other takes it: 0 and 1 were the two layouts of PEXT, and 5 UQRSHRNB's.
 use mathlib.Core.List.{List, [], _∷_}
 use Prim.Native.Nat.{ℕ, _/_, _%_}
 use lib.Dec.{eqb, ltb}
@@ -7,12 +7,11 @@ use Rattle.setting.specs.Numbers.{Outcome, accept, refuse}
 use Rattle.logic.specs.Pick.{pick}
 use Rattle.encoding.specs.Instructions.{isSet, narrowNumber}
 use Rattle.encoding.specs.declared.Instruction.{Instruction}
-use Rattle.encoding.specs.declared.Instruction.the-variants.{Pext1, Pext2, Psel, Luti4c, Luti4s, Narrow}
+use Rattle.encoding.specs.declared.Instruction.the-variants.{Pext, Psel, Luti4c, Luti4s, Narrow}
 
 -- ---- reading
 abbrev pub numbersOf : Instruction → List ℕ
-numbersOf (Pext1 size imm2 counter pd) = 0 ∷ size ∷ imm2 ∷ counter ∷ pd ∷ 0 ∷ 0 ∷ []
-numbersOf (Pext2 size i1 counter pd) = 1 ∷ size ∷ i1 ∷ counter ∷ pd ∷ 0 ∷ 0 ∷ []
+numbersOf (Pext size first portions counter pd) = 7 ∷ size ∷ first ∷ portions ∷ counter ∷ pd ∷ 0 ∷ []
 numbersOf (Psel size offset index pn pm pd) = 2 ∷ size ∷ offset ∷ index ∷ pn ∷ pm ∷ pd ∷ []
 numbersOf (Luti4c size i1 zn zd) = 3 ∷ size ∷ i1 ∷ zn ∷ zd ∷ 0 ∷ 0 ∷ []
 numbersOf (Luti4s size i1 zn zd) = 4 ∷ size ∷ i1 ∷ zn ∷ zd ∷ 0 ∷ 0 ∷ []
@@ -31,13 +30,12 @@ narrowAt bits size shift zn zd =
 -- and so is a number that is no form's
 abbrev pub instructionAt : ℕ → ℕ → ℕ → ℕ → ℕ → ℕ → ℕ → Outcome Instruction
 instructionAt form a b c d e f =
-    pick (eqb form 0) (accept (Pext1 a b c d))
-    (pick (eqb form 1) (accept (Pext2 a b c d))
-    (pick (eqb form 2) (accept (Psel a b c d e f))
+    pick (eqb form 2) (accept (Psel a b c d e f))
     (pick (eqb form 3) (accept (Luti4c a b c d))
     (pick (eqb form 4) (accept (Luti4s a b c d))
     (pick (eqb form 6) (narrowAt a b c d e)
-    (refuse 9))))))
+    (pick (eqb form 7) (accept (Pext a b c d e))
+    (refuse 9)))))
 
 -- and so is a list of another length than seven
 unfoldable pub instructionOf : List ℕ → Outcome Instruction

@@ -15,18 +15,13 @@ fn numbers(instruction: Instruction) -> [u32; 7]
     ensures { λ r. ⌜ r ≡ numbersOf instruction ⌝ }
 {
     match instruction {
-        Instruction::Pext1 {
+        Instruction::Pext {
             size,
-            imm2,
+            first,
+            portions,
             counter,
             pd,
-        } => [0, size, imm2, counter, pd, 0, 0],
-        Instruction::Pext2 {
-            size,
-            i1,
-            counter,
-            pd,
-        } => [1, size, i1, counter, pd, 0, 0],
+        } => [7, size, first, portions, counter, pd, 0],
         Instruction::Psel {
             size,
             offset,
@@ -100,18 +95,6 @@ fn named(form: u32, a: u32, b: u32, c: u32, d: u32, e: u32, f: u32) -> Decoded
     ensures { λ r. ⌜ decodedAs r ≡ instructionAt form a b c d e f ⌝ }
 {
     match form {
-        0 => Decoded::Fields(Instruction::Pext1 {
-            size: a,
-            imm2: b,
-            counter: c,
-            pd: d,
-        }),
-        1 => Decoded::Fields(Instruction::Pext2 {
-            size: a,
-            i1: b,
-            counter: c,
-            pd: d,
-        }),
         2 => Decoded::Fields(Instruction::Psel {
             size: a,
             offset: b,
@@ -123,6 +106,13 @@ fn named(form: u32, a: u32, b: u32, c: u32, d: u32, e: u32, f: u32) -> Decoded
         3 => luti4(false, a, b, c, d),
         4 => luti4(true, a, b, c, d),
         6 => narrow(a, b, c, d, e),
+        7 => Decoded::Fields(Instruction::Pext {
+            size: a,
+            first: b,
+            portions: c,
+            counter: d,
+            pd: e,
+        }),
         _ => Decoded::Refused(Answer::OutOfRange),
     }
 }

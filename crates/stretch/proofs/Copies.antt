@@ -9,6 +9,7 @@ use borrow.Author.Tests.{eq-eqb}
 use Rattle.setting.specs.Numbers.{Outcome, accept, refuse}
 use Rattle.encoding.specs.Decode.{decodeOf}
 use Rattle.encoding.specs.declared.Instruction.{Instruction}
+use Rattle.encoding.proofs.Round.{read-in-range}
 use Rattle.order.specs.Banks.{Register, sameRegister}
 use Rattle.order.proofs.Touches.{copies-conflict}
 use Rattle.machine.specs.Effects.{effectOf}
@@ -29,8 +30,8 @@ copies s w h = go (decodeOf s w) h
     go (refuse n) k = absurd (omega arith)
 
 pub each-writes : EachWrites
-each-writes s w h = go (decodeOf s w) h
+each-writes s w h = go (decodeOf s w) refl h
   where
-    go : (d : Outcome Instruction) → overWord false (λ i. true) d ≡ true → 0 < length (overWord [] (λ i. effectOf i .writes) d)
-    go (accept i) k = fine i .writes-some
-    go (refuse n) k = absurd (false≢true k)
+    go : (d : Outcome Instruction) → decodeOf s w ≡ d → overWord false (λ i. true) d ≡ true → 0 < length (overWord [] (λ i. effectOf i .writes) d)
+    go (accept i) e k = fine i .writes-some (read-in-range s i w e)
+    go (refuse n) e k = absurd (false≢true k)

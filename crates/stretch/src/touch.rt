@@ -5,6 +5,7 @@ ghost use mathlib.Core.List.{[], _∷_};
 ghost use Prim.Native.Nat.{_+_, _*_, _^_, _≤_, _<_};
 ghost use Rattle.encoding.specs.Instructions.{inRange};
 ghost use Rattle.machine.specs.Machine.{Z, P, W};
+ghost use Rattle.machine.specs.Pext.{pextWrites};
 ghost use Rattle.machine.specs.Narrow.{narrowReads};
 ghost use Rattle.machine.specs.Effects.{effectOf};
 ghost use Rattle.stretch.specs.Private.{registerBit, bitsOf, joined, touchBy, readingAs, readingOf, clashes};
@@ -63,6 +64,17 @@ fn four_vectors(k: u32, gap: u32) -> u64
     vector(k) | (vector(k + gap) | (vector(k + 2 * gap) | vector(k + 3 * gap)))
 }
 
+// PEXT's: Pd, and of two portions the next.
+fn pext_destinations(portions: u32, pd: u32) -> u64
+    requires { ⌜ (0 < portions) × (portions ≤ 2) × (pd < 16) ⌝ }
+    ensures { λ r. ⌜ r ≡ bitsOf (pextWrites portions pd) ⌝ }
+{
+    if portions == 2 {
+        return predicate(pd) | predicate((pd + 1) % 16);
+    }
+    predicate(pd)
+}
+
 // A narrowing word's: Zn, and of a T word Zd too.
 fn narrow_sources(t: bool, zn: u32, zd: u32) -> u64
     requires { ⌜ (zn < 32) × (zd < 32) ⌝ }
@@ -89,11 +101,12 @@ fn touch_of(instruction: Instruction) -> Touch
     ensures { λ r. ⌜ r ≡ touchBy (effectOf instruction .reads) (effectOf instruction .writes) ⌝ }
 {
     match instruction {
-        Instruction::Pext1 { counter, pd, .. } => join(predicate(counter), predicate(pd)),
-        Instruction::Pext2 { counter, pd, .. } => join(
-            predicate(counter),
-            predicate(pd) | predicate((pd + 1) % 16),
-        ),
+        Instruction::Pext {
+            portions,
+            counter,
+            pd,
+            ..
+        } => join(predicate(counter), pext_destinations(portions, pd)),
         Instruction::Psel {
             index,
             pn,

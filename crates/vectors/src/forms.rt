@@ -1,8 +1,9 @@
-// Words read and forms written: kinds 0 to 6 and 11.
+// Words read and forms written: kinds 0 to 6, 11 and 12.
 //
 // Six values follow kind, VL and features. Kind 0 reads the word that is the first value; the others write a word of the
-// form with these fields, kinds 1 to 6 of the forms 0 to 5 (5 is not used any more) and kind 11 of form 6. An answer is
-// eight numbers: document 01's number, then the form's number, counted from 1, and its fields, or the word and zeros.
+// form with these fields, kinds 1 to 6 of the forms 0 to 5 (0, 1 and 5 are not used any more), kind 11 of form 6 and kind
+// 12 of form 7. An answer is eight numbers: document 01's number, then the form's number, counted from 1, and its fields,
+// or the word and zeros.
 use crate::lines;
 use encoding::Decoded;
 use encoding::Instruction;
@@ -11,8 +12,8 @@ use setting::Setting;
 
 // The crate `numbers` counts the forms from 0; the kinds 7 to 10 are other questions.
 fn form_of(kind: u32) -> u32 {
-    if kind == 11 {
-        return 6;
+    if kind > 10 {
+        return kind - 5;
     }
     std::num::wrapping_sub_u32(kind, 1)
 }

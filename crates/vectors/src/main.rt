@@ -24,7 +24,7 @@ fn answer_next() -> bool {
         features: question[2],
     };
     match question[0] {
-        0..=6 | 11 => forms::answer(setting, &question),
+        0..=6 | 11 | 12 => forms::answer(setting, &question),
         7 => steps::answer(setting, &question),
         8 => stretches::conflict(setting, &question),
         9 => runs::answer(setting, &question),

@@ -1,7 +1,5 @@
--- `luti4s` meets its contract: each field is a digit of the word, and the size's log is its field.
-use mathlib.Core.Path.{sym}
+-- `luti4s` meets its contract: each field is a digit of the word.
 use native.Mathlib.Nat.{div-one}
-use Rattle.encoding.proofs.FieldBits.{log-size}
 use borrow.Author.Needs.{needs}
 use Rattle.fields.proofs.luti4s.Statement.{statement}
 use Rattle.fields.proofs.luti4s.Tie as tie
@@ -9,20 +7,14 @@ use Rattle.fields.proofs.luti4s.Tie as tie
 luti-size-requires : tie.Need-luti-size-requires
 luti-size-requires c κs = search needs
 
-element-size-requires : tie.Need-element-size-requires
-element-size-requires c κs = search needs
+mul-zd : tie.Need-mul-zd
+mul-zd c = search needs
 
-mul-destination : tie.Need-mul-destination
-mul-destination c = search needs
-
-add-destination : tie.Need-add-destination
-add-destination c = search needs
+add-zd : tie.Need-add-zd
+add-zd c = search needs
 
 returns : tie.Need-returns
-returns c =
-    let w = c .before .before .args .word in
-    let e = c .before .luti-size .ensures in
-    (rw (c .element-size .ensures, e .0, div-one w), rw (c .element-size .ensures) (sym (log-size (c .before .luti-size .result) (e .1) .0)))
+returns c = rw (c .luti-size .ensures, div-one (c .before .args .word))
 
 pub luti4s-spec : {M : Type 1} → statement M
-luti4s-spec = tie.close (tie.spec luti-size-requires element-size-requires mul-destination add-destination returns)
+luti4s-spec = tie.close (tie.spec luti-size-requires mul-zd add-zd returns)

@@ -11,11 +11,11 @@ use Rattle.interpreter.proofs.step_in_run.Tie as tie
 place-requires : tie.Need-place-requires
 place-requires c κs = search needs
 
-pext1-requires : tie.Need-pext1-requires
-pext1-requires c κs = search needs
+pext-requires : tie.Need-pext-requires
+pext-requires c κs = search needs
 
-pext2-requires : tie.Need-pext2-requires
-pext2-requires c κs = search needs
+pext-requires-2 : tie.Need-pext-requires-2
+pext-requires-2 c κs = search needs
 
 psel-requires : tie.Need-psel-requires
 psel-requires c κs = search needs
@@ -33,7 +33,7 @@ same-length : tie.Need-same-length
 same-length c = search needs
 
 returns : tie.Need-returns
-returns c = let b = c .before .before .before .before in c .before .before .pext1 .ensures _ _ _ (refl, refl) (record { checked = b .before .before .before .before .before .pre; place = sym (b .match .keys1) ∙ b .before .place .ensures })
+returns c = let b = c .before .before .before .before in c .before .before .pext .ensures _ _ _ (refl, refl) (record { checked = b .before .before .before .before .before .pre; place = sym (b .match .keys1) ∙ b .before .place .ensures })
 
 same-length-2 : tie.Need-same-length-2
 same-length-2 c = search needs
@@ -73,8 +73,8 @@ step-in-run-spec =
     tie.close
     (tie.spec
     place-requires
-    pext1-requires
-    pext2-requires
+    pext-requires
+    pext-requires-2
     psel-requires
     luti4c-requires
     luti4s-requires

@@ -18,9 +18,6 @@ enum-known-instruction-4 c = search needs
 enum-known-instruction-5 : tie.Need-enum-known-instruction-5
 enum-known-instruction-5 c = search needs
 
-enum-known-instruction-6 : tie.Need-enum-known-instruction-6
-enum-known-instruction-6 c = search needs
-
 narrow-number-requires : tie.Need-narrow-number-requires
 narrow-number-requires c κs = search needs
 
@@ -37,10 +34,7 @@ returns-4 : tie.Need-returns-4
 returns-4 c = rw (c .before .instruction4 .given .1)
 
 returns-5 : tie.Need-returns-5
-returns-5 c = rw (c .before .instruction5 .given .1)
-
-returns-6 : tie.Need-returns-6
-returns-6 c = rw (c .before .before .instruction6 .given .1, c .narrow-number .ensures)
+returns-5 c = rw (c .before .before .instruction5 .given .1, c .narrow-number .ensures)
 
 pub numbers-spec : {M : Type 1} → statement M
 numbers-spec =
@@ -51,11 +45,9 @@ numbers-spec =
     enum-known-instruction-3
     enum-known-instruction-4
     enum-known-instruction-5
-    enum-known-instruction-6
     narrow-number-requires
     returns
     returns-2
     returns-3
     returns-4
-    returns-5
-    returns-6)
+    returns-5)

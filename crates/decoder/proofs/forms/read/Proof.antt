@@ -8,17 +8,17 @@ use borrow.Author.Needs.{needs}
 use Rattle.decoder.proofs.forms.read.Statement.{statement}
 use Rattle.decoder.proofs.forms.read.Tie as tie
 
-pext1-requires : tie.Need-pext1-requires
-pext1-requires c κs = search needs
+pext-requires : tie.Need-pext-requires
+pext-requires c κs = search needs
 
-pext1-requires-2 : tie.Need-pext1-requires-2
-pext1-requires-2 c κs = search needs
+pext-requires-2 : tie.Need-pext-requires-2
+pext-requires-2 c κs = search needs
 
-pext2-requires : tie.Need-pext2-requires
-pext2-requires c κs = search needs
+pext-requires-3 : tie.Need-pext-requires-3
+pext-requires-3 c κs = search needs
 
-pext2-requires-2 : tie.Need-pext2-requires-2
-pext2-requires-2 c κs = search needs
+pext-requires-4 : tie.Need-pext-requires-4
+pext-requires-4 c κs = search needs
 
 psel-requires : tie.Need-psel-requires
 psel-requires c κs = search needs
@@ -45,19 +45,19 @@ narrow-requires-2 : tie.Need-narrow-requires-2
 narrow-requires-2 c κs = search needs
 
 returns : tie.Need-returns
-returns c = rw (c .before .before .match .keys1) (c .pext12 .ensures ∙ c .before .pext1 .ensures .0)
+returns c = rw (c .before .before .match .keys1) (c .pext2 .ensures ∙ c .before .pext .ensures)
 
 returns-2 : tie.Need-returns-2
-returns-2 c = rw (c .before .before .match .keys2) (c .pext22 .ensures ∙ c .before .pext2 .ensures .0)
+returns-2 c = rw (c .before .before .match .keys2) (c .pext4 .ensures ∙ c .before .pext3 .ensures)
 
 returns-3 : tie.Need-returns-3
 returns-3 c = rw (c .before .before .match .keys3) (c .psel2 .ensures ∙ c .before .psel .ensures)
 
 returns-4 : tie.Need-returns-4
-returns-4 c = rw (c .before .before .match .keys4) (c .luti4c2 .ensures ∙ c .before .luti4c .ensures .0)
+returns-4 c = rw (c .before .before .match .keys4) (c .luti4c2 .ensures ∙ c .before .luti4c .ensures)
 
 returns-5 : tie.Need-returns-5
-returns-5 c = rw (c .before .before .match .keys5) (c .luti4s2 .ensures ∙ c .before .luti4s .ensures .0)
+returns-5 c = rw (c .before .before .match .keys5) (c .luti4s2 .ensures ∙ c .before .luti4s .ensures)
 
 returns-6 : tie.Need-returns-6
 returns-6 c = rw (c .before .before .match .keys6) (c .narrow2 .ensures ∙ c .before .narrow .ensures)
@@ -69,10 +69,10 @@ pub read-spec : {M : Type 1} → statement M
 read-spec =
     tie.close
     (tie.spec
-    pext1-requires
-    pext1-requires-2
-    pext2-requires
-    pext2-requires-2
+    pext-requires
+    pext-requires-2
+    pext-requires-3
+    pext-requires-4
     psel-requires
     psel-requires-2
     luti4c-requires
