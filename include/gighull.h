@@ -23,8 +23,10 @@ extern "C" {
 
 /* The version of this interface: of the functions, and of the numbers that go in and come out. Each change of it raises
  * the number; what stood here before there was one counts as 1. The constant is what a program was compiled against,
- * the function what it is linked with: where the two differ, the program should not go on. */
-#define GIGHULL_INTERFACE_VERSION 4
+ * the function what it is linked with: where the two differ, the program should not go on.
+ *
+ * What came with each: 2 the narrowing words, as form 6; 3 PSEL, as form 2; 4 gighull_psel_index; 5 one PEXT, as form 7. */
+#define GIGHULL_INTERFACE_VERSION 5
 uint32_t gighull_interface_version(void);
 
 /* W12 to W15, PC, and the access flags: V, S and T. */
@@ -74,25 +76,28 @@ uint32_t gighull_permitted(uint32_t vl, uint32_t features, const uint32_t *words
 
 /* What a word is read as. Answers 0, 1 or 3; where it is 0, `fields` holds seven numbers:
  *
- *   0 PEXT1     size imm2 counter Pd 0 0          3 LUTI4C    size i1 Zn Zd 0 0
- *   1 PEXT2     size i1 counter Pd 0 0            4 LUTI4S    size i1 Zn Zd 0 0
  *   2 PSEL      size offset index Pn Pm Pd        6 narrowing number size shift Zn Zd 0
+ *   3 LUTI4C    size i1 Zn Zd 0 0                 7 PEXT      size first portions counter Pd 0
+ *   4 LUTI4S    size i1 Zn Zd 0 0
  *
- * The number of a narrowing word is its bits 13 to 10, op:U:R:T, as one number:
+ * PEXT writes the portion `first` of its counter to Pd and, where `portions` is 2 and not 1, the next portion to the next
+ * register, which after P15 is P0. The number of a narrowing word is its bits 13 to 10, op:U:R:T, as one number:
  *
  *   0 SQSHRUNB       4 SHRNB       8 SQSHRNB      12 UQSHRNB
  *   1 SQSHRUNT       5 SHRNT       9 SQSHRNT      13 UQSHRNT
  *   2 SQRSHRUNB      6 RSHRNB     10 SQRSHRNB     14 UQRSHRNB
  *   3 SQRSHRUNT      7 RSHRNT     11 SQRSHRNT     15 UQRSHRNT
  *
- * (a word's name is in its line of gighull_lines). Form 5 was UQRSHRNB alone, in version 1, and is not used again. Up to
- * version 2 the same numbers of form 2 were another operation, of a draft of the manual that was withdrawn.
+ * (a word's name is in its line of gighull_lines). Three forms are not used any more: 0 and 1 were PEXT of one portion and
+ * of two, up to version 4, and 5 was UQRSHRNB alone, in version 1. Up to version 2 the same numbers of form 2 were another
+ * operation, of a draft of the manual that was withdrawn.
  * `fields` stays as it was where the answer is not 0, and where its length is not 7 (the answer is the same). */
 uint32_t gighull_decode(uint32_t vl, uint32_t features, uint32_t word, uint32_t *fields, size_t fields_len);
 
-/* The word that seven numbers are written as. Answers 0, 1, 9 or 3; where it is not 0, `*word` is 0. The form 5, a form
- * above 6, a narrowing word's number above 15 and a list of another length than 7 are 9. Numbers after a form's own
- * fields, where it has four or five, are not looked at. */
+/* The word that seven numbers are written as. Answers 0, 1, 9 or 3; where it is not 0, `*word` is 0. The forms 0, 1 and 5,
+ * a form above 7, a narrowing word's number above 15 and a list of another length than 7 are 9; so are, for PEXT, portions
+ * other than 1 and 2, a first above 3, and an odd first with two portions. Numbers after a form's own fields, where it has
+ * four or five, are not looked at. */
 uint32_t gighull_encode(uint32_t vl, uint32_t features, const uint32_t *fields, size_t fields_len, uint32_t *word);
 
 /* PSEL's index unit, an adder of 32 bits and a mask: which element of Pm a PSEL word of this size and offset reads, where

@@ -3,7 +3,8 @@
 
 use super::{any_flags, same_step};
 use reference::encode::encode;
-use reference::instruction::{Form, Instruction};
+use reference::instruction::Instruction;
+use reference::layout::Row;
 use reference::machine::Machine;
 use reference::random::Random;
 use reference::samples::{listing_words, matching_word};
@@ -48,12 +49,12 @@ fn any_words_in_a_row() {
 #[test]
 fn defined_words_at_every_length() {
     let mut random = Random::new(33);
-    for form in Form::ALL {
+    for row in Row::ALL {
         for vl in VECTOR_LENGTHS {
             let features = ALL_FEATURES;
             for _ in 0..400 {
                 let mut machine = any_machine(&mut random);
-                let word = matching_word(&mut random, form);
+                let word = matching_word(&mut random, row);
                 let number = same_step(Setting { vl, features }, word, &mut machine);
                 assert_eq!(number, 0);
             }
@@ -61,7 +62,7 @@ fn defined_words_at_every_length() {
     }
 }
 
-/// Every counter there is, each at any length, size and portion, and from a
+/// Every counter there is, each at any length, size and portions, and from a
 /// register with anything above it.
 #[test]
 fn every_counter() {
@@ -71,8 +72,15 @@ fn every_counter() {
         machine.p[8 * 32..8 * 32 + 2].copy_from_slice(&counter.to_le_bytes());
         let vl = random.pick(&VECTOR_LENGTHS);
         let size = random.pick(&[8, 16, 32, 64]);
-        let fields = [size, random.below(4), 8, random.below(8), 0, 0];
-        let word = encode(FULL, Instruction::from_fields(Form::Pext1, fields)).unwrap();
+        let (first, portions) = random.pick(&[(0, 1), (1, 1), (2, 1), (3, 1), (0, 2), (2, 2)]);
+        let pext = Instruction::Pext {
+            size,
+            first,
+            portions,
+            counter: 8,
+            pd: random.below(7),
+        };
+        let word = encode(FULL, pext).unwrap();
         let features = ALL_FEATURES;
         assert_eq!(same_step(Setting { vl, features }, word, &mut machine), 0);
     }
@@ -87,11 +95,11 @@ fn destinations_that_are_sources() {
         for _ in 0..200 {
             let p = random.below(16);
             let z = random.below(32);
-            let psel = matching_word(&mut random, Form::Psel);
-            let lookup = matching_word(&mut random, Form::Luti4c);
-            let strided = matching_word(&mut random, Form::Luti4s);
-            let narrow = matching_word(&mut random, Form::Narrow);
-            let pext = random.pick(&[Form::Pext1, Form::Pext2]);
+            let psel = matching_word(&mut random, Row::Psel);
+            let lookup = matching_word(&mut random, Row::Luti4c);
+            let strided = matching_word(&mut random, Row::Luti4s);
+            let narrow = matching_word(&mut random, Row::Narrow);
+            let pext = random.pick(&[Row::Pext1, Row::Pext2]);
             let pext = matching_word(&mut random, pext);
             for word in [
                 psel & !0x3c0f | p << 10 | p,

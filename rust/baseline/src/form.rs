@@ -50,7 +50,7 @@ mod tests {
     fn number(instruction: Instruction) -> u32 {
         match instruction {
             Instruction::Narrow { bits, .. } => 6 + bits,
-            other => other.form().number(),
+            other => 1 + other.row() as u32,
         }
     }
 

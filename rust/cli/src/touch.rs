@@ -13,8 +13,15 @@ pub struct Touch {
 
 pub fn touch(instruction: Instruction) -> Touch {
     let (reads, writes) = match instruction {
-        Instruction::Pext1 { counter, pd, .. } => (vec![P(counter)], vec![P(pd)]),
-        Instruction::Pext2 { counter, pd, .. } => (vec![P(counter)], vec![P(pd), P((pd + 1) % 16)]),
+        Instruction::Pext {
+            portions,
+            counter,
+            pd,
+            ..
+        } => {
+            let destinations = (0..portions).map(|portion| P((pd + portion) % 16));
+            (vec![P(counter)], destinations.collect())
+        }
         Instruction::Psel {
             index, pn, pm, pd, ..
         } => (vec![P(pn), P(pm), W(index)], vec![P(pd)]),

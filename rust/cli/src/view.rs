@@ -81,8 +81,7 @@ fn written(instruction: Instruction) -> Given {
             let alone = signed || narrowing.t();
             (if alone { size } else { 2 * size }, signed)
         }
-        Instruction::Pext1 { size, .. }
-        | Instruction::Pext2 { size, .. }
+        Instruction::Pext { size, .. }
         | Instruction::Psel { size, .. }
         | Instruction::Luti4c { size, .. }
         | Instruction::Luti4s { size, .. } => (size, false),

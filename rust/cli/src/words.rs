@@ -6,6 +6,7 @@ use std::io::{self, Read, Write};
 use gighull::{Setting, conflict, decode, lines};
 
 use crate::failure::{Failure, Status, quoted};
+use crate::lesson::way::{self, Way};
 use crate::lesson::word;
 use crate::touch::{listed, reason, touch};
 
@@ -68,12 +69,13 @@ pub fn encode(arguments: &[&str]) -> Result<String, Failure> {
         let example = "gighull encode SQRSHRNT size=16 shift=3 zn=1 zd=2";
         return Err(failure(format!("which form? {example}")));
     };
-    let form = word::form(name).map_err(failure)?.ok_or_else(|| {
+    let way = Way::named(name).map_err(failure)?.ok_or_else(|| {
         let name = quoted(name);
-        failure(format!("{name} is no form: {}", word::names()))
+        failure(format!("{name} is no form: {}", way::names()))
     })?;
-    let instruction = word::instruction(form, fields).map_err(failure)?;
-    let word = word::written(instruction)
+    let instruction = way.instruction(fields).map_err(failure)?;
+    let word = way
+        .written(instruction)
         .map_err(|message| Failure::refused("gighull encode", message))?;
     Ok(format!("{word:08x}\n"))
 }

@@ -63,7 +63,7 @@ fn decode_and_encode() {
     let undefined = told(&["decode", "25207010", "0x25204000"], 2);
     assert_eq!(
         undefined,
-        "25207010 PEXT1 size=8 imm2=0 counter=8 pd=0\n\
+        "25207010 PEXT size=8 first=0 portions=1 counter=8 pd=0\n\
          25204000 3: undefined: no layout, with its condition, matches\n"
     );
     wrong(&["decode"], "gighull decode: ");
@@ -75,8 +75,8 @@ fn decode_and_encode() {
     wrong(&["encode"], "gighull encode: ");
     wrong(&["encode", "NOP"], "gighull encode: 'NOP' is no form");
     wrong(
-        &["encode", "PEXT1", "size=8"],
-        "gighull encode: PEXT1: field imm2 is missing",
+        &["encode", "UQRSHRNB", "size=8"],
+        "gighull encode: UQRSHRNB: field shift is missing",
     );
     let narrow = ["encode", "UQRSHRNB", "size=8", "shift=9", "zn=0", "zd=0"];
     let output = gighull(&narrow);

@@ -95,7 +95,7 @@ fn other_contents() {
     assert!(told.ends_with(block), "{told}");
     // A view that hides bits does not hide a change.
     let text = "vl 256\npn9 = counter b all\nshow pn8\nshow p8.d\n\
-                PEXT1 size=8 imm2=0 counter=9 pd=8\nend\n";
+                PEXT size=8 first=0 portions=1 counter=9 pd=8\nend\n";
     let parts = [
         "pn8   after  0xffff",
         "p8.d  before  all 0\n",
@@ -248,7 +248,7 @@ fn wrong_lessons() {
         ("w12 = -1\nend", "1: w12: '-1' is no number from 0 to"),
         (
             "UQRSHRN size=8 shift=8 zn=0 zd=0\nend",
-            "1: 'UQRSHRN' is no form: PEXT1, ",
+            "1: 'UQRSHRN' is no form: PEXT, PEXT1, PEXT2, PSEL, ",
         ),
         ("w12 = 4294967296\nend", "1: w12: '4294967296' is no number"),
         ("w16 = 1\nend", "1: there is no 'w16'"),

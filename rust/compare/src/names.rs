@@ -1,9 +1,10 @@
 //! The words by their names in a listing, to count them by.
 
-use reference::instruction::{Form, Instruction, NARROW_NAMES};
+use reference::instruction::{Instruction, NARROW_NAMES};
+use reference::layout::Row;
 
-/// How many forms are one name each: all but the narrowing words.
-const SINGLE: usize = Form::ALL.len() - 1;
+/// How many rows are one name each: all but the narrowing words'.
+const SINGLE: usize = Row::ALL.len() - 1;
 
 /// A number for each name.
 pub type Counts = [u64; SINGLE + NARROW_NAMES.len()];
@@ -13,7 +14,7 @@ pub type Counts = [u64; SINGLE + NARROW_NAMES.len()];
 pub fn count(instruction: Instruction, counts: &mut Counts) {
     let place = match instruction {
         Instruction::Narrow { bits, .. } => SINGLE + bits as usize,
-        other => other.form().number() as usize - 1,
+        other => other.row() as usize,
     };
     counts[place] += 1;
 }
@@ -26,7 +27,7 @@ pub fn add(counts: &mut Counts, more: &Counts) {
 
 /// `PEXT1 5, PEXT2 7, ..`
 pub fn shown(counts: &Counts) -> String {
-    let single = Form::ALL[..SINGLE].iter().map(|form| form.name());
+    let single = Row::ALL[..SINGLE].iter().map(|row| row.name());
     let names = single.chain(NARROW_NAMES);
     let shown: Vec<String> = names
         .zip(counts)
@@ -46,9 +47,9 @@ mod tests {
     #[test]
     fn a_word_is_counted_by_its_own_name() {
         let mut random = Random::new(1);
-        for form in Form::ALL {
+        for row in Row::ALL {
             for _ in 0..100 {
-                let instruction = decode(FULL, matching_word(&mut random, form)).unwrap();
+                let instruction = decode(FULL, matching_word(&mut random, row)).unwrap();
                 let mut counts = Counts::default();
                 count(instruction, &mut counts);
                 let shown = shown(&counts);

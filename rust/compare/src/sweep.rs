@@ -3,16 +3,17 @@
 use std::sync::Mutex;
 
 use gighull::ffi;
-use reference::instruction::Form;
+use reference::instruction::{Form, RETIRED_FORMS};
 use reference::layout::LAYOUTS;
 use reference::refusal::number_of;
 use reference::samples::spread;
 use reference::setting::{Setting, VECTOR_LENGTHS};
+use reference::values::{FIRST_PORTIONS, NUMBERS_OF_PORTIONS};
 
 use crate::campaign::Found;
 use crate::case::Case;
 use crate::check::{check, numbers, reference_encode};
-use crate::draw::ALLOWED_FEATURES;
+use crate::draw::{ALLOWED_FEATURES, retired_values};
 use crate::names::{self, Counts};
 use crate::threads::spread_over;
 
@@ -126,10 +127,12 @@ fn one_word(vl: u32, word: u32, accepted: &mut Accepted) -> Result<(), Box<Case>
 /// How many questions had each answer.
 pub type Answers = [u64; 10];
 
-/// Every combination of the values below, for every form, under each allowed
-/// feature number and some settings that are not allowed.
+/// Every combination of the values below, for every form and for those that are
+/// not used any more, under each allowed feature number and some settings that are
+/// not allowed.
 pub fn encode(threads: usize) -> Result<Answers, Box<Found>> {
-    let grids: Vec<Grid> = Form::ALL.into_iter().map(Grid::of).collect();
+    let retired = RETIRED_FORMS.into_iter().map(Grid::of_retired);
+    let grids: Vec<Grid> = Form::ALL.into_iter().map(Grid::of).chain(retired).collect();
     let chunks: u64 = grids.iter().map(Grid::chunks).sum();
     let total = grids.iter().map(|grid| grid.count).sum();
     let answers = Mutex::new(Answers::default());
@@ -182,7 +185,8 @@ fn one_writing(vl: u32, numbers: &[u32; 7], answers: &mut Answers) -> Result<(),
 /// The values of a form's fields: all in the range, those next to it, and some
 /// that are in it after a cast.
 struct Grid {
-    form: Form,
+    /// The first number of its lists.
+    form: u32,
     values: [Vec<u32>; 6],
     count: u64,
 }
@@ -199,8 +203,14 @@ impl Grid {
         let registers = |count: u32| -> Vec<u32> { (0..count + 2).chain([256]).collect() };
         let none = || vec![0];
         let values = match form {
-            Form::Pext1 => [sizes, upto(9), registers(16), registers(16), none(), none()],
-            Form::Pext2 => [sizes, upto(9), registers(16), registers(16), none(), none()],
+            Form::Pext => [
+                sizes,
+                FIRST_PORTIONS.into_iter().chain(7..10).collect(),
+                NUMBERS_OF_PORTIONS.to_vec(),
+                registers(16),
+                registers(16),
+                none(),
+            ],
             Form::Psel => [
                 vec![0, 1, 7, 8, 9, 16, 24, 32, 63, 64, 65, 128],
                 upto(17),
@@ -221,6 +231,15 @@ impl Grid {
                 none(),
             ],
         };
+        Grid::new(form.number() - 1, values)
+    }
+
+    /// What the form had in range.
+    fn of_retired(form: u32) -> Grid {
+        Grid::new(form, retired_values(form))
+    }
+
+    fn new(form: u32, values: [Vec<u32>; 6]) -> Grid {
         let count = values.iter().map(|values| values.len() as u64).product();
         Grid {
             form,
@@ -234,12 +253,36 @@ impl Grid {
     }
 
     fn numbers(&self, mut index: u64) -> [u32; 7] {
-        let mut numbers = [self.form.number() - 1; 7];
+        let mut numbers = [self.form; 7];
         for (number, values) in numbers[1..].iter_mut().zip(&self.values) {
             let length = values.len() as u64;
             *number = values[(index % length) as usize];
             index /= length;
         }
         numbers
+    }
+}
+
+#[cfg(test)]
+mod tests {
+    use super::*;
+    use reference::refusal::Refusal;
+    use reference::setting::FULL;
+
+    #[test]
+    fn a_retired_form_is_9_behind_1() {
+        let wrong = Setting {
+            features: 2,
+            ..FULL
+        };
+        for form in RETIRED_FORMS {
+            let grid = Grid::of_retired(form);
+            assert!(grid.count >= 1024, "{form}");
+            for index in 0..grid.count {
+                let numbers = grid.numbers(index);
+                assert_eq!(reference_encode(FULL, &numbers), Err(Refusal::Range));
+                assert_eq!(reference_encode(wrong, &numbers), Err(Refusal::Setting));
+            }
+        }
     }
 }

@@ -4,30 +4,24 @@ use std::fmt;
 
 use crate::{Narrowing, ffi};
 
-/// A row of document 01's table, or a word of the narrowing family.
+/// A row of document 01's table, where PEXT1 and PEXT2 are one, or a word of the
+/// narrowing family.
 #[derive(Clone, Copy, Debug, PartialEq, Eq, Hash)]
 pub enum Form {
-    Pext1,
-    Pext2,
+    Pext,
     Psel,
     Luti4c,
     Luti4s,
     Narrow(Narrowing),
 }
 
-/// The rows of the table that are one word each.
-const SINGLE: [Form; 5] = [
-    Form::Pext1,
-    Form::Pext2,
-    Form::Psel,
-    Form::Luti4c,
-    Form::Luti4s,
-];
+/// All but the narrowing words.
+const SINGLE: [Form; 4] = [Form::Pext, Form::Psel, Form::Luti4c, Form::Luti4s];
 
 impl Form {
     /// In the order of the table, the narrowing words by number.
     pub const ALL: [Form; SINGLE.len() + Narrowing::ALL.len()] = {
-        let mut all = [Form::Pext1; SINGLE.len() + Narrowing::ALL.len()];
+        let mut all = [Form::Pext; SINGLE.len() + Narrowing::ALL.len()];
         let mut place = 0;
         while place < all.len() {
             all[place] = if place < SINGLE.len() {
@@ -40,11 +34,10 @@ impl Form {
         all
     };
 
-    /// The name in the listing.
+    /// The name in the listing; there PEXT is PEXT1 or PEXT2, by its portions.
     pub fn name(self) -> &'static str {
         match self {
-            Form::Pext1 => "PEXT1",
-            Form::Pext2 => "PEXT2",
+            Form::Pext => "PEXT",
             Form::Psel => "PSEL",
             Form::Luti4c => "LUTI4C",
             Form::Luti4s => "LUTI4S",
@@ -55,8 +48,7 @@ impl Form {
     /// The names of its fields, in their order.
     pub const fn field_names(self) -> &'static [&'static str] {
         match self {
-            Form::Pext1 => &["size", "imm2", "counter", "pd"],
-            Form::Pext2 => &["size", "i1", "counter", "pd"],
+            Form::Pext => &["size", "first", "portions", "counter", "pd"],
             Form::Psel => &["size", "offset", "index", "pn", "pm", "pd"],
             Form::Luti4c | Form::Luti4s => &["size", "i1", "zn", "zd"],
             Form::Narrow(_) => &["size", "shift", "zn", "zd"],
@@ -68,17 +60,12 @@ impl Form {
     pub const fn with(self, fields: [u32; 6]) -> Instruction {
         let [a, b, c, d, e, f] = fields;
         match self {
-            Form::Pext1 => Instruction::Pext1 {
+            Form::Pext => Instruction::Pext {
                 size: a,
-                imm2: b,
-                counter: c,
-                pd: d,
-            },
-            Form::Pext2 => Instruction::Pext2 {
-                size: a,
-                i1: b,
-                counter: c,
-                pd: d,
+                first: b,
+                portions: c,
+                counter: d,
+                pd: e,
             },
             Form::Psel => Instruction::Psel {
                 size: a,
@@ -124,19 +111,17 @@ impl fmt::Display for Form {
 /// [`encode`]: crate::encode
 #[derive(Clone, Copy, Debug, PartialEq, Eq, Hash)]
 pub enum Instruction {
-    Pext1 {
+    /// Document 01 has it as two: PEXT1, of one portion, the imm2, and PEXT2, of
+    /// two from 2 times the i1.
+    Pext {
         size: u32,
-        /// the portion
-        imm2: u32,
+        /// the first portion, 0 to 3, and 0 or 2 where there are two
+        first: u32,
+        /// how many, 1 or 2
+        portions: u32,
         /// the counter register, 8 to 15
         counter: u32,
-        pd: u32,
-    },
-    Pext2 {
-        size: u32,
-        i1: u32,
-        /// the counter register, 8 to 15
-        counter: u32,
+        /// the first destination; the one after P15 is P0
         pd: u32,
     },
     /// Document 01 has DUP in its place, of a draft that was withdrawn, and calls
@@ -179,8 +164,7 @@ pub enum Instruction {
 impl Instruction {
     pub const fn form(self) -> Form {
         match self {
-            Instruction::Pext1 { .. } => Form::Pext1,
-            Instruction::Pext2 { .. } => Form::Pext2,
+            Instruction::Pext { .. } => Form::Pext,
             Instruction::Psel { .. } => Form::Psel,
             Instruction::Luti4c { .. } => Form::Luti4c,
             Instruction::Luti4s { .. } => Form::Luti4s,
@@ -191,18 +175,13 @@ impl Instruction {
     /// The values of its fields, in the order of their names, then zeros.
     pub const fn fields(self) -> [u32; 6] {
         match self {
-            Instruction::Pext1 {
+            Instruction::Pext {
                 size,
-                imm2,
+                first,
+                portions,
                 counter,
                 pd,
-            } => [size, imm2, counter, pd, 0, 0],
-            Instruction::Pext2 {
-                size,
-                i1,
-                counter,
-                pd,
-            } => [size, i1, counter, pd, 0, 0],
+            } => [size, first, portions, counter, pd, 0],
             Instruction::Psel {
                 size,
                 offset,
@@ -234,22 +213,27 @@ impl Instruction {
     /// assert_eq!(narrow.numbers(), [6, 14, 8, 3, 1, 2, 0]);
     /// assert_eq!(Instruction::from_numbers([6, 14, 8, 3, 1, 2, 0]), Some(narrow));
     /// assert_eq!(Instruction::from_numbers([6, 16, 8, 3, 1, 2, 0]), None);
-    /// assert_eq!(Instruction::from_numbers([5, 8, 3, 1, 2, 0, 0]), None);
+    /// let pext = Instruction::Pext { size: 8, first: 2, portions: 2, counter: 9, pd: 3 };
+    /// assert_eq!(pext.numbers(), [7, 8, 2, 2, 9, 3, 0]);
+    /// assert_eq!(Instruction::from_numbers([7, 8, 2, 2, 9, 3, 0]), Some(pext));
+    /// for form in [0, 1, 5, 8] {
+    ///     assert_eq!(Instruction::from_numbers([form, 8, 1, 8, 3, 0, 0]), None);
+    /// }
     /// ```
     pub const fn numbers(self) -> [u32; ffi::FIELDS] {
         let [a, b, c, d, e, f] = self.fields();
         match self.form() {
-            Form::Pext1 => [0, a, b, c, d, e, f],
-            Form::Pext2 => [1, a, b, c, d, e, f],
             Form::Psel => [2, a, b, c, d, e, f],
             Form::Luti4c => [3, a, b, c, d, e, f],
             Form::Luti4s => [4, a, b, c, d, e, f],
             Form::Narrow(narrowing) => [6, narrowing.number(), a, b, c, d, e],
+            Form::Pext => [7, a, b, c, d, e, f],
         }
     }
 
-    /// None for the form 5, a form above 6 and a narrowing word above 15.
-    /// Numbers after the form's own are not looked at.
+    /// None for the forms 0, 1 and 5, which are not used any more, a form above 7
+    /// and a narrowing word above 15. Numbers after the form's own are not looked
+    /// at.
     pub const fn from_numbers(numbers: [u32; ffi::FIELDS]) -> Option<Instruction> {
         let [form, a, b, c, d, e, f] = numbers;
         if form == 6 {
@@ -259,11 +243,10 @@ impl Instruction {
             };
         }
         let form = match form {
-            0 => Form::Pext1,
-            1 => Form::Pext2,
             2 => Form::Psel,
             3 => Form::Luti4c,
             4 => Form::Luti4s,
+            7 => Form::Pext,
             _ => return None,
         };
         Some(form.with([a, b, c, d, e, f]))
@@ -277,6 +260,8 @@ impl Instruction {
 /// let narrowing = Narrowing::new(14).unwrap();
 /// let narrow = Instruction::Narrow { narrowing, size: 8, shift: 3, zn: 1, zd: 2 };
 /// assert_eq!(narrow.to_string(), "UQRSHRNB size=8 shift=3 zn=1 zd=2");
+/// let pext = Instruction::Pext { size: 8, first: 2, portions: 2, counter: 9, pd: 3 };
+/// assert_eq!(pext.to_string(), "PEXT size=8 first=2 portions=2 counter=9 pd=3");
 /// ```
 impl fmt::Display for Instruction {
     fn fmt(&self, out: &mut fmt::Formatter) -> fmt::Result {

@@ -60,8 +60,9 @@ const LONGEST_LINE: usize = 19;
 ///
 /// ```
 /// use gighull::{Instruction, Refusal, Setting, decode};
-/// let pext = Instruction::Pext1 { size: 8, imm2: 0, counter: 8, pd: 0 };
-/// assert_eq!(decode(Setting::FULL, 0x25207010), Ok(pext));
+/// let pext = |portions, pd| Instruction::Pext { size: 8, first: 0, portions, counter: 8, pd };
+/// assert_eq!(decode(Setting::FULL, 0x25207010), Ok(pext(1, 0)));
+/// assert_eq!(decode(Setting::FULL, 0x2520741f), Ok(pext(2, 15)));
 /// assert_eq!(decode(Setting::FULL, 0x25204000), Err(Refusal::Undefined));
 /// assert_eq!(decode(Setting::new(128, 2), 0x25207010), Err(Refusal::Setting));
 /// ```
@@ -82,6 +83,11 @@ pub fn decode(setting: Setting, word: u32) -> Answer<Instruction> {
 /// assert_eq!(encode(Setting::FULL, psel(64, 2)), Err(Refusal::Range));
 /// assert_eq!(encode(Setting::new(128, 3), psel(64, 1)), Ok(0x25e04000));
 /// assert_eq!(encode(Setting::new(128, 1), psel(64, 1)), Err(Refusal::Undefined));
+/// let pext = |first, portions| Instruction::Pext { size: 8, first, portions, counter: 9, pd: 3 };
+/// assert_eq!(encode(Setting::FULL, pext(2, 1)), Ok(0x25207233));
+/// assert_eq!(encode(Setting::FULL, pext(2, 2)), Ok(0x25207533));
+/// assert_eq!(encode(Setting::FULL, pext(1, 2)), Err(Refusal::Range));
+/// assert_eq!(encode(Setting::FULL, pext(0, 3)), Err(Refusal::Range));
 /// ```
 pub fn encode(setting: Setting, instruction: Instruction) -> Answer<u32> {
     let mut word = 0;

@@ -95,7 +95,7 @@ static void numbers(void) {
                 told(gighull_conflict(LENGTHS_OF_VL[v], FEATURES[f], WORDS[w], WORDS[COUNT(WORDS) - 1 - w], &yes));
             }
     uint32_t *fields = bytes(28, 0);
-    for (uint32_t form = 0; form < 8; form++)
+    for (uint32_t form = 0; form <= 8; form++)
         for (size_t a = 0; a < COUNT(NUMBERS); a++)
             for (size_t b = 0; b < COUNT(NUMBERS); b++) {
                 for (int i = 0; i < 7; i++)
@@ -104,6 +104,47 @@ static void numbers(void) {
                 told(gighull_encode(128, 31, fields, 7, &word));
             }
     free(fields);
+}
+
+static void written(const uint32_t list[7], uint32_t expected) {
+    uint32_t *fields = bytes(28, 0), *word = bytes(4, 0xff);
+    memcpy(fields, list, 28);
+    uint32_t answer = gighull_encode(2048, 31, fields, 7, word);
+    told(answer);
+    if (answer != expected || (answer == 0) != (*word != 0)) {
+        printf("the word of");
+        for (int i = 0; i < 7; i++)
+            printf(" %u", list[i]);
+        printf("\n");
+        exit(1);
+    }
+    free(fields);
+    free(word);
+}
+
+/* What the header says of form 7, and of the same numbers, with and without `portions`, for forms that there are not. */
+static void pext(uint32_t size, uint32_t first, uint32_t portions, uint32_t counter, uint32_t pd) {
+    static const uint32_t NO_FORMS[] = {0, 1, 5, 8, 263, 0x80000007, 0xffffffff};
+    bool sizes = size == 8 || size == 16 || size == 32 || size == 64;
+    bool range = first <= 3 && (portions == 1 || (portions == 2 && first % 2 == 0));
+    bool registers = counter >= 8 && counter <= 15 && pd <= 15;
+    written((const uint32_t[]){7, size, first, portions, counter, pd, 0xffffffff}, sizes && range && registers ? 0 : 9);
+    for (size_t i = 0; i < COUNT(NO_FORMS); i++) {
+        written((const uint32_t[]){NO_FORMS[i], size, first, portions, counter, pd, 0}, 9);
+        written((const uint32_t[]){NO_FORMS[i], size, first, counter, pd, 0, 0}, 9);
+    }
+}
+
+static void pexts(void) {
+    static const uint32_t SIZES[] = {0, 8, 64, 264};
+    static const uint32_t PORTIONS[] = {0, 1, 2, 3, 4, 256, 257, 65538, 0x80000000, 0x80000001, 0x80000002, 0xffffffff};
+    static const uint32_t REGISTERS[] = {0, 7, 8, 15, 16, 0xffffffff};
+    for (size_t s = 0; s < COUNT(SIZES); s++)
+        for (size_t f = 0; f < COUNT(PORTIONS); f++)
+            for (size_t n = 0; n < COUNT(PORTIONS); n++)
+                for (size_t c = 0; c < COUNT(REGISTERS); c++)
+                    for (size_t d = 0; d < COUNT(REGISTERS); d++)
+                        pext(SIZES[s], PORTIONS[f], PORTIONS[n], REGISTERS[c], REGISTERS[d]);
 }
 
 static void parts_and_lines(void) {
@@ -182,6 +223,7 @@ int main(void) {
     numbers();
     parts_and_lines();
     index_units();
+    pexts();
     printf("%lu answers; by number:", answers);
     for (int i = 0; i < 10; i++)
         if (i != 7)

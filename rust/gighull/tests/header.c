@@ -64,6 +64,16 @@ static void decode(uint32_t word) {
     printf("\nencode answers %" PRIu32 ": %08" PRIx32 "\n", answer, back);
 }
 
+static void encode(const uint32_t fields[7]) {
+    uint32_t word = 9;
+    uint32_t answer = gighull_encode(128, 31, fields, 7, &word);
+    printf("encode");
+    for (int i = 0; i < 7; i++) {
+        printf(" %" PRIu32, fields[i]);
+    }
+    printf(" answers %" PRIu32 ": %08" PRIx32 "\n", answer, word);
+}
+
 static void psel_index(uint32_t vl, uint32_t size, uint32_t offset, uint32_t w) {
     uint32_t sum = 9, mask = 9, index = 9;
     uint32_t answer = gighull_psel_index(vl, size, offset, w, &sum, &mask, &index);
@@ -107,6 +117,19 @@ int main(void) {
 
     decode(UINT32_C(0x25e34c85));
     decode(UINT32_C(0x45352cbe));
+    /* PEXT of one portion and of two; then what is in range and what not, and the forms that it had before. */
+    decode(UINT32_C(0x25e073b4));
+    decode(UINT32_C(0x2520753f));
+    static const uint32_t PORTIONS[] = {0, 1, 2, 3, 258};
+    for (uint32_t first = 0; first < 5; first++) {
+        for (size_t i = 0; i < sizeof PORTIONS / sizeof PORTIONS[0]; i++) {
+            encode((const uint32_t[7]){7, 8, first, PORTIONS[i], 9, 3, 0});
+        }
+    }
+    encode((const uint32_t[7]){0, 8, 3, 9, 3, 0, 0});
+    encode((const uint32_t[7]){1, 8, 1, 9, 3, 0, 0});
+    encode((const uint32_t[7]){5, 8, 8, 0, 0, 0, 0});
+    encode((const uint32_t[7]){8, 8, 0, 1, 9, 3, 0});
     uint32_t word = 9;
     uint32_t answer = gighull_decode(128, 31, 0, &word, 0);
     printf("decode to nowhere answers %" PRIu32 ": %" PRIu32 "\n", answer, word);

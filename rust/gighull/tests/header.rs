@@ -119,6 +119,31 @@ fn decode(word: u32) -> String {
     format!("{read}encode answers {answer}: {back:08x}\n")
 }
 
+fn encode(fields: [u32; 7]) -> String {
+    let mut word = 9;
+    let answer = ffi::encode(128, 31, &fields, &mut word);
+    format!("encode {} answers {answer}: {word:08x}\n", spaced(&fields))
+}
+
+/// PEXT's portions in range and not, and the forms that it had before.
+fn encodes() -> String {
+    let mut said = String::new();
+    for first in 0..5 {
+        for portions in [0, 1, 2, 3, 258] {
+            said.push_str(&encode([7, 8, first, portions, 9, 3, 0]));
+        }
+    }
+    for fields in [
+        [0, 8, 3, 9, 3, 0, 0],
+        [1, 8, 1, 9, 3, 0, 0],
+        [5, 8, 8, 0, 0, 0, 0],
+        [8, 8, 0, 1, 9, 3, 0],
+    ] {
+        said.push_str(&encode(fields));
+    }
+    said
+}
+
 fn psel_index(vl: u32, size: u32, offset: u32, w: u32) -> String {
     let (mut sum, mut mask, mut index) = (9, 9, 9);
     let answer = ffi::psel_index(vl, size, offset, w, &mut sum, &mut mask, &mut index);
@@ -194,6 +219,9 @@ fn said_by_rust() -> String {
 
     say(decode(0x25e3_4c85));
     say(decode(0x4535_2cbe));
+    say(decode(0x25e0_73b4));
+    say(decode(0x2520_753f));
+    say(encodes());
     let mut word = 9;
     let answer = ffi::decode(128, 31, 0, &mut []);
     say(format!("decode to nowhere answers {answer}: {word}\n"));
@@ -255,7 +283,7 @@ fn c_and_rust_find_the_same() {
     assert_eq!(c, rust);
     // What they both find is not nothing: words are done, and refused.
     for part in [
-        "interface version 4, the header's 4\n",
+        "interface version 5, the header's 5\n",
         "record size 32 align 8\n",
         "answers 0 z",
         "answers 1 z",
@@ -267,6 +295,25 @@ fn c_and_rust_find_the_same() {
         "encode answers 0: 25e34c85\n",
         "decode answers 0: 6 11 16 11 5 30 0\n",
         "encode answers 0: 45352cbe\n",
+        "decode answers 0: 7 64 3 1 13 4 0\n",
+        "encode answers 0: 25e073b4\n",
+        "decode answers 0: 7 8 2 2 9 15 0\n",
+        "encode answers 0: 2520753f\n",
+        "encode 7 8 0 0 9 3 0 answers 9: 00000000\n",
+        "encode 7 8 0 1 9 3 0 answers 0: 25207033\n",
+        "encode 7 8 3 1 9 3 0 answers 0: 25207333\n",
+        "encode 7 8 4 1 9 3 0 answers 9: 00000000\n",
+        "encode 7 8 0 2 9 3 0 answers 0: 25207433\n",
+        "encode 7 8 1 2 9 3 0 answers 9: 00000000\n",
+        "encode 7 8 2 2 9 3 0 answers 0: 25207533\n",
+        "encode 7 8 3 2 9 3 0 answers 9: 00000000\n",
+        "encode 7 8 4 2 9 3 0 answers 9: 00000000\n",
+        "encode 7 8 0 3 9 3 0 answers 9: 00000000\n",
+        "encode 7 8 0 258 9 3 0 answers 9: 00000000\n",
+        "encode 0 8 3 9 3 0 0 answers 9: 00000000\n",
+        "encode 1 8 1 9 3 0 0 answers 9: 00000000\n",
+        "encode 5 8 8 0 0 0 0 answers 9: 00000000\n",
+        "encode 8 8 0 1 9 3 0 answers 9: 00000000\n",
         "encode of nothing answers 9: 00000000\n",
         "vector answers 64:",
         "predicate answers 8:",

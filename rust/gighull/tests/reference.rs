@@ -7,6 +7,7 @@ use std::collections::BTreeSet;
 use gighull::ffi;
 use reference::encode::encode;
 use reference::instruction::{Form, Instruction};
+use reference::layout::Row;
 use reference::random::Random;
 use reference::refusal::number_of;
 use reference::samples::{
@@ -14,6 +15,7 @@ use reference::samples::{
 };
 use reference::setting::{ALL_FEATURES, FULL, Setting, VECTOR_LENGTHS};
 use reference::stretches::any_setting;
+use reference::values::{FIRST_PORTIONS, NUMBERS_OF_PORTIONS};
 
 fn raw_encode(vl: u32, features: u32, numbers: &[u32]) -> (u32, u32) {
     let mut word = 77;
@@ -68,10 +70,10 @@ fn readings() {
     let mut random = Random::new(63);
     let mut counts = [0; 10];
     for round in 0..20_000 {
-        let form = random.pick(&Form::ALL);
+        let row = random.pick(&Row::ALL);
         let word = match round % 4 {
-            0 => matching_word(&mut random, form),
-            1 => failing_word(&mut random, form).unwrap_or_default(),
+            0 => matching_word(&mut random, row),
+            1 => failing_word(&mut random, row).unwrap_or_default(),
             2 => near_miss(&mut random),
             _ => random.next_u32(),
         };
@@ -101,8 +103,8 @@ fn writings() {
     let mut random = Random::new(64);
     let mut counts = [0; 10];
     for _ in 0..5_000 {
-        let form = random.pick(&Form::ALL);
-        let fields = fields_in_range(&mut random, form);
+        let row = random.pick(&Row::ALL);
+        let (form, fields) = (row.form(), fields_in_range(&mut random, row));
         let setting = setting_of_any_kind(&mut random);
         counts[same_writing(setting, form, fields) as usize] += 1;
         for place in 0..form.field_count() {
@@ -122,13 +124,40 @@ fn writings() {
     assert!(all.iter().all(|&count| count > 100), "{counts:?}");
 }
 
-/// The form 5, a form above 6, a narrowing word above 15 and lists of another
-/// length are 9, where the setting is allowed.
+/// Every first portion with every number of them, some of which a cast would
+/// bring into range.
+#[test]
+fn portions() {
+    let mut accepted = Vec::new();
+    for first in FIRST_PORTIONS {
+        for portions in NUMBERS_OF_PORTIONS {
+            let fields = [16, first, portions, 9, 15, 0];
+            if same_writing(FULL, Form::Pext, fields) == 0 {
+                accepted.push((first, portions));
+            }
+        }
+    }
+    assert_eq!(accepted, [(0, 1), (0, 2), (1, 1), (2, 1), (2, 2), (3, 1)]);
+}
+
+/// The forms 0, 1 and 5, also with lists that they had in range, a form above 7, a
+/// narrowing word above 15 and lists of another length are 9, where the setting is
+/// allowed.
 #[test]
 fn writings_of_no_instruction() {
-    let forms = [5, 7, 8, 256, 65536, u32::MAX].map(|form| [form, 8, 8, 8, 8, 0, 0]);
+    const FORMS: [u32; 9] = [0, 1, 5, 8, 9, 256 + 7, 65536 + 2, (1 << 31) + 7, u32::MAX];
+    let lists = [
+        [8, 1, 8, 3, 0, 0],
+        [8, 1, 1, 8, 3, 0],
+        [8, 8, 8, 8, 0, 0],
+        [8, 1, 12, 1, 2, 3],
+        [u32::MAX; 6],
+    ];
+    let forms = FORMS
+        .into_iter()
+        .flat_map(|form| lists.map(|[a, b, c, d, e, f]| [form, a, b, c, d, e, f]));
     let words = [16, 17, 256, 65536, u32::MAX].map(|word| [6, word, 8, 8, 8, 0, 0]);
-    for numbers in forms.into_iter().chain(words) {
+    for numbers in forms.chain(words) {
         assert_eq!(gighull::Instruction::from_numbers(numbers), None);
         assert_eq!(raw_encode(128, ALL_FEATURES, &numbers), (9, 0));
         assert_eq!(raw_encode(128, 0, &numbers), (9, 0));
@@ -142,24 +171,28 @@ fn writings_of_no_instruction() {
     }
 }
 
-/// A word's name is that of its form, stands in its line, and is the reference's.
+/// A word's name is that of its form, for PEXT with its portions behind it, stands
+/// in its line, and is the reference's.
 #[test]
 fn names() {
     let mut random = Random::new(67);
     let mut seen = BTreeSet::new();
     for _ in 0..5_000 {
-        let form = random.pick(&Form::ALL);
-        let word = matching_word(&mut random, form);
-        let name = gighull::decode(gighull::Setting::FULL, word)
-            .map(|instruction| instruction.form().name())
-            .unwrap();
+        let row = random.pick(&Row::ALL);
+        let word = matching_word(&mut random, row);
+        let instruction = gighull::decode(gighull::Setting::FULL, word).unwrap();
+        let form = instruction.form();
+        let name = match instruction {
+            gighull::Instruction::Pext { portions, .. } => format!("{form}{portions}"),
+            _ => form.to_string(),
+        };
         let expected = reference::decode::decode(FULL, word).unwrap();
         assert_eq!(name, expected.name());
         let line = format!("{word:08x} {name}\n");
         assert_eq!(gighull::lines(&word.to_le_bytes()), line);
         seen.insert(name);
     }
-    assert_eq!(seen.len(), gighull::Form::ALL.len());
+    assert_eq!(seen.len(), gighull::Form::ALL.len() + 1);
 }
 
 type Request = fn(&[u8], u32, u32, &mut [u8]) -> usize;

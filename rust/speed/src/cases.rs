@@ -2,7 +2,8 @@
 //! steps, and the machine that they start on.
 
 use reference::decode::decode;
-use reference::instruction::{Form, Instruction, NARROW_NAMES};
+use reference::instruction::{Instruction, NARROW_NAMES};
+use reference::layout::Row;
 use reference::random::Random;
 use reference::samples::{listing_words, matching_word};
 use reference::setting::FULL;
@@ -48,13 +49,13 @@ impl<Scalars> Machine<Scalars> {
 /// What the words of a case have in common.
 #[derive(Clone, Copy)]
 pub enum Kind {
-    /// One form and size.
-    Form(Form),
+    /// One row of the table and size.
+    Row(Row),
     /// One narrowing word, by op:U:R:T, and size.
     Narrow(u32),
     /// PSEL by an element that is false.
     False,
-    /// Every form.
+    /// Every row.
     Mixed,
     /// All are refused.
     Refused,
@@ -139,19 +140,19 @@ pub fn cases(known: Words) -> Vec<Case> {
         steps.push(Case::steps(&name, kind, words.clone()));
         cases.push(Case::stretch(&name, kind, words));
     };
-    for form in Form::ALL.into_iter().filter(|&form| form != Form::Narrow) {
-        for &size in sizes(form) {
-            both(form.name(), size, Kind::Form(form), of_form(form, size));
+    for row in Row::ALL.into_iter().filter(|&row| row != Row::Narrow) {
+        for &size in sizes(row) {
+            both(row.name(), size, Kind::Row(row), of_row(row, size));
         }
     }
     for (bits, name) in (0..).zip(NARROW_NAMES).filter(|&(bits, _)| known.has(bits)) {
-        for &size in sizes(Form::Narrow) {
-            let words = of_form(Form::Narrow, size).into_iter();
+        for &size in sizes(Row::Narrow) {
+            let words = of_row(Row::Narrow, size).into_iter();
             let words = words.map(|word| narrow(word, bits)).collect();
             both(name, size, Kind::Narrow(bits), words);
         }
     }
-    let falses = of_false(&of_form(Form::Psel, 8));
+    let falses = of_false(&of_row(Row::Psel, 8));
     cases.push(Case::stretch("PSEL B, false", Kind::False, falses));
     for seed in 1..=3 {
         let name = format!("mixed, {seed}");
@@ -164,7 +165,7 @@ pub fn cases(known: Words) -> Vec<Case> {
         answer: 3,
         ..Case::steps("undefined", Kind::Refused, undefined)
     });
-    let closed = of_form(Form::Narrow, 8).into_iter();
+    let closed = of_row(Row::Narrow, 8).into_iter();
     let closed = closed.map(|word| narrow(word, UQRSHRNB)).collect();
     cases.push(Case {
         answer: 4,
@@ -174,12 +175,12 @@ pub fn cases(known: Words) -> Vec<Case> {
     cases
 }
 
-fn sizes(form: Form) -> &'static [u32] {
-    match form {
-        Form::Pext1 | Form::Pext2 | Form::Psel => &[8, 16, 32, 64],
-        Form::Luti4c => &[16, 32],
-        Form::Luti4s => &[16],
-        Form::Narrow => &[8, 16, 32],
+fn sizes(row: Row) -> &'static [u32] {
+    match row {
+        Row::Pext1 | Row::Pext2 | Row::Psel => &[8, 16, 32, 64],
+        Row::Luti4c => &[16, 32],
+        Row::Luti4s => &[16],
+        Row::Narrow => &[8, 16, 32],
     }
 }
 
@@ -187,7 +188,7 @@ fn letter(size: u32) -> &'static str {
     ["B", "H", "S", "D"][size.trailing_zeros() as usize - 3]
 }
 
-/// Words that are done, of every form, in no order.
+/// Words that are done, of every row, in no order.
 fn mixed(seed: u64) -> Vec<u32> {
     listing_words(seed, 100_000)
         .filter(|&word| decode(FULL, word).is_ok())
@@ -195,24 +196,24 @@ fn mixed(seed: u64) -> Vec<u32> {
         .collect()
 }
 
-/// Words of a form and size whose sources no one of them writes: the two halves
+/// Words of a row and size whose sources no one of them writes: the two halves
 /// of a file are apart, and P7 is left to the false elements. (What a narrowing
 /// word with T keeps of its destination is no such source.)
-fn of_form(form: Form, size: u32) -> Vec<u32> {
+fn of_row(row: Row, size: u32) -> Vec<u32> {
     // The place in the table, from 1: the same words as in earlier figures.
-    let place = Form::ALL.iter().position(|&known| known == form);
-    let place = place.expect("ALL has every form") as u64 + 1;
+    let place = Row::ALL.iter().position(|&known| known == row);
+    let place = place.expect("ALL has every row") as u64 + 1;
     let mut random = Random::new(place * 64 + u64::from(size));
     let mut words = Vec::new();
     while words.len() < STRETCH {
-        let word = matching_word(&mut random, form);
+        let word = matching_word(&mut random, row);
         let fields = decode(FULL, word).expect("the word matches").fields();
-        let (found, apart) = match form {
-            Form::Pext1 => (fields[0], fields[3] < 8),
-            Form::Pext2 => (fields[0], fields[3] < 7),
-            Form::Psel => (fields[0], fields[3] < 7 && fields[4] < 7 && fields[5] >= 8),
-            Form::Luti4c | Form::Luti4s => (fields[0], fields[2] < 16 && fields[3] >= 16),
-            Form::Narrow => (fields[1], fields[3] < 16 && fields[4] >= 16),
+        let (found, apart) = match row {
+            Row::Pext1 => (fields[0], fields[4] < 8),
+            Row::Pext2 => (fields[0], fields[4] < 7),
+            Row::Psel => (fields[0], fields[3] < 7 && fields[4] < 7 && fields[5] >= 8),
+            Row::Luti4c | Row::Luti4s => (fields[0], fields[2] < 16 && fields[3] >= 16),
+            Row::Narrow => (fields[1], fields[3] < 16 && fields[4] >= 16),
         };
         if apart && found == size {
             words.push(word);

@@ -150,28 +150,10 @@ fn archivespeed_times_old_words_with_an_old_archive() {
 #[test]
 fn archivespeed_lets_psel_differ_from_its_predecessor() {
     let folder = new_folder("predecessor");
-    let page = format!("{folder}/other.c");
-    fs::write(&page, OTHER).unwrap();
     let archive = |name: &str, version: u32, is_other: &str, change: &str| {
-        let (archive, object) = (format!("{folder}/{name}.a"), format!("{folder}/{name}.o"));
-        let renames = ["interface_version", "run", "lines"]
-            .map(|name| format!("--redefine-sym=gighull_{name}=own_{name}"));
-        let [a, b, c] = renames.each_ref().map(String::as_str);
-        let renamed = called("objcopy", &[a, b, c, ARCHIVE, &archive]);
-        assert!(renamed.status.success(), "{renamed:?}");
-        let macros = [
-            format!("-DVERSION={version}"),
-            format!("-DIS_OTHER(word)=({is_other})"),
-            format!("-DCHANGE={change}"),
-        ];
-        let [a, b, c] = macros.each_ref().map(String::as_str);
-        let options = ["-c", "-fPIC", "-I", HEADERS, a, b, c, &page, "-o", &object];
-        assert!(called("cc", &options).status.success());
-        assert!(called("ar", &["r", &archive, &object]).status.success());
-        archive
+        other_archive(&folder, name, version, is_other, change)
     };
     let is_psel = "(word & 0xff20c210) == 0x25204000 && (word & 0x5c0000) != 0";
-    let is_pext = "(word & 0xff3ffc10) == 0x25207010";
     let bytes = "p[511] = 0x77";
     let old = archive("old", 2, is_psel, bytes);
     for arguments in [[&old, ARCHIVE, "1"], [ARCHIVE, &old, "1"]] {
@@ -191,7 +173,7 @@ fn archivespeed_lets_psel_differ_from_its_predecessor() {
             "PSEL B at VL 128: another answer",
         ),
         (
-            archive("pext", 2, is_pext, bytes),
+            archive("pext", 2, IS_PEXT1, bytes),
             "PEXT1 B at VL 128: the machines differ",
         ),
     ] {
@@ -199,6 +181,73 @@ fn archivespeed_lets_psel_differ_from_its_predecessor() {
         assert!(complained(&output), "{output:?}");
         assert_eq!(text(&output.stderr), format!("archivespeed: {line}\n"));
     }
+}
+
+/// That PEXT is one form now does not show in a step, a run or a listing: with an
+/// archive of before, everything is compared.
+#[test]
+fn archivespeed_compares_all_with_the_archive_before() {
+    let folder = new_folder("before");
+    let archive = |name: &str, is_other: &str, change: &str| {
+        other_archive(&folder, name, 4, is_other, change)
+    };
+    let same = archive("same", "0", "answer = 4");
+    let output = archivespeed(&[&same, ARCHIVE, "1"]);
+    assert!(output.status.success(), "{output:?}");
+    let report = text(&output.stdout);
+    assert!(
+        report.contains("\nall equal after every case; "),
+        "{report}"
+    );
+    let is_pext2 = "(word & 0xff3ffe10) == 0x25207410";
+    for (archive, line) in [
+        (
+            archive("one", IS_PEXT1, "p[511] = 0x77"),
+            "PEXT1 B at VL 128: the machines differ",
+        ),
+        (
+            archive("two", is_pext2, "p[511] = 0x77"),
+            "PEXT2 B at VL 128: the machines differ",
+        ),
+        (
+            archive("refused", is_pext2, "answer = 4"),
+            "PEXT2 B at VL 128: another answer",
+        ),
+        (
+            archive("listed", is_pext2, "(void)0"),
+            "listing: another answer or text",
+        ),
+    ] {
+        let output = archivespeed(&[&archive, ARCHIVE, "1"]);
+        assert!(complained(&output), "{output:?}");
+        assert_eq!(text(&output.stderr), format!("archivespeed: {line}\n"));
+    }
+}
+
+/// PEXT of one portion, as a test in C.
+const IS_PEXT1: &str = "(word & 0xff3ffc10) == 0x25207010";
+
+/// The archive with a version of the interface, and with a change to a run, and
+/// another listing, where a word is one of these.
+fn other_archive(folder: &str, name: &str, version: u32, is_other: &str, change: &str) -> String {
+    let path = |end: &str| format!("{folder}/{name}.{end}");
+    let (page, archive, object) = (path("c"), path("a"), path("o"));
+    fs::write(&page, OTHER).unwrap();
+    let renames = ["interface_version", "run", "lines"]
+        .map(|name| format!("--redefine-sym=gighull_{name}=own_{name}"));
+    let [a, b, c] = renames.each_ref().map(String::as_str);
+    let renamed = called("objcopy", &[a, b, c, ARCHIVE, &archive]);
+    assert!(renamed.status.success(), "{renamed:?}");
+    let macros = [
+        format!("-DVERSION={version}"),
+        format!("-DIS_OTHER(word)=({is_other})"),
+        format!("-DCHANGE={change}"),
+    ];
+    let [a, b, c] = macros.each_ref().map(String::as_str);
+    let options = ["-c", "-fPIC", "-I", HEADERS, a, b, c, &page, "-o", &object];
+    assert!(called("cc", &options).status.success());
+    assert!(called("ar", &["r", &archive, &object]).status.success());
+    archive
 }
 
 /// An archive's functions, but for some words.

@@ -2,6 +2,7 @@
 
 pub mod parser;
 mod values;
+pub mod way;
 pub mod word;
 
 use std::fs::File;

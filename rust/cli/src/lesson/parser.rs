@@ -3,6 +3,7 @@
 use gighull::{Scalars, Setting, features};
 
 use super::values::{counter, number, number_up_to, values};
+use super::way::{self, Way};
 use super::{Content, FEATURES, Flags, LENGTHS, Lesson, Order, Show, Start, Word, word};
 use crate::failure::{Failure, quoted};
 use crate::register::{Elements, Register};
@@ -82,13 +83,13 @@ impl Parser {
             "order" => self.order(rest),
             "end" if rest.trim().is_empty() => self.enter(Part::End),
             "end" => Err(format!("{} follows `end`", quoted(rest.trim()))),
-            _ if word::form(first)?.is_some() || word::hex(first).is_some() => self.word(line),
+            _ if Way::named(first)?.is_some() || word::hex(first).is_some() => self.word(line),
             _ => match line.split_once('=') {
                 // Of a word's line, fields with a `=` follow the first name.
                 Some((name, value)) if !name.trim().contains(char::is_whitespace) => {
                     self.content(name.trim(), value.trim())
                 }
-                Some(_) => Err(format!("{} is no form: {}", quoted(first), word::names())),
+                Some(_) => Err(format!("{} is no form: {}", quoted(first), way::names())),
                 None if first.bytes().all(|digit| digit.is_ascii_hexdigit()) => Err(format!(
                     "{} is no word: it has eight hex digits",
                     quoted(first)

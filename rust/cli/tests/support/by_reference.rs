@@ -231,8 +231,7 @@ fn word(name: &str, fields: &[&str]) -> u32 {
     };
     let form = form.unwrap_or_else(|| panic!("the lessons have no line {name}"));
     let order: &[&str] = match form {
-        Form::Pext1 => &["size", "imm2", "counter", "pd"],
-        Form::Pext2 => &["size", "i1", "counter", "pd"],
+        Form::Pext => &["size", "first", "portions", "counter", "pd"],
         Form::Psel => &["size", "offset", "index", "pn", "pm", "pd"],
         Form::Luti4c | Form::Luti4s => &["size", "i1", "zn", "zd"],
         Form::Narrow => &["size", "shift", "zn", "zd"],

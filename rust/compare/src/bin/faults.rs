@@ -20,6 +20,7 @@ struct Fault {
     name: &'static str,
     /// What the faulty reference does.
     does: &'static str,
+    /// From the reference's sources.
     file: &'static str,
     sound: &'static str,
     faulty: &'static str,
@@ -108,9 +109,11 @@ const FAULTS: &[Fault] = &[
         name: "counter-size",
         does: "the counter is expanded at the instruction's size (ruled out by name)",
         file: "operations.rs",
-        sound: "result[(e * size / 8) as usize] = mask[(index * size / 8) as usize];",
-        faulty: "let own = 1 << counter.0.trailing_zeros().min(3);
-        result[(e * size / 8) as usize] = mask.get((index * own) as usize) == Some(&true);",
+        sound: "let mask = counter.expand(vl);",
+        faulty: "let mask = counter.expand(vl);
+    let (own, step) = (1 << counter.0.trailing_zeros().min(3), size as usize / 8);
+    let at = |b: usize| b % step == 0 && mask.get(b / step * own) == Some(&true);
+    let mask: Vec<bool> = (0..mask.len()).map(at).collect();",
     },
     Fault {
         name: "write-then-read",
@@ -131,15 +134,102 @@ const FAULTS: &[Fault] = &[
         name: "looser-match",
         does: "LUTI4S is also read with sizes 10 and 11 (a looser match, ruled out by name)",
         file: "layout.rs",
-        sound: "Form::Luti4s => word & 0x3000 == 0x1000,",
-        faulty: "Form::Luti4s => word & 0x3000 != 0,",
+        sound: "Row::Luti4s => word & 0x3000 == 0x1000,",
+        faulty: "Row::Luti4s => word & 0x3000 != 0,",
     },
     Fault {
         name: "pair-stays",
-        does: "PEXT2 with Pd 15 writes P15 twice, and not P0",
+        does: "PEXT of two portions with Pd 15 writes P15 twice, and not P0",
         file: "step.rs",
-        sound: "Written::Predicate((pd + 1) % 16, second)",
-        faulty: "Written::Predicate((pd + 1).min(15), second)",
+        sound: "register = (register + 1) % 16;",
+        faulty: "register = (register + 1).min(15);",
+    },
+    Fault {
+        name: "one-written",
+        does: "PEXT of two portions writes one register",
+        file: "step.rs",
+        sound: "let results = pext(counter, size, first, portions, vl);",
+        faulty: "let results = pext(counter, size, first, portions.min(1), vl);",
+    },
+    Fault {
+        name: "second-is-first",
+        does: "the second of PEXT's portions is the first again",
+        file: "operations.rs",
+        sound: "portion_of(&mask, size, first + k, vl)",
+        faulty: "portion_of(&mask, size, first + k / 2, vl)",
+    },
+    Fault {
+        name: "first-is-i1",
+        does: "of PEXT2's layout the first portion is read as i1, not twice i1",
+        file: "decode.rs",
+        sound: "Row::Pext2 => read_pext(word, 2 * bits(word, 8, 1), 2),",
+        faulty: "Row::Pext2 => read_pext(word, bits(word, 8, 1), 2),",
+    },
+    Fault {
+        name: "layouts-exchanged",
+        does: "encode writes one portion by PEXT2's layout and two by PEXT1's",
+        file: "encode.rs",
+        sound: "let row = instruction.row();",
+        faulty: "let row = match instruction.row() {
+        layout::Row::Pext1 => layout::Row::Pext2,
+        layout::Row::Pext2 => layout::Row::Pext1,
+        row => row,
+    };",
+    },
+    Fault {
+        name: "odd-pair",
+        does: "encode takes an odd first portion with two of them",
+        file: "encode.rs",
+        sound: "let odd_pair = portions == 2 && first % 2 == 1;",
+        faulty: "let odd_pair = portions == 2 && first > 3;",
+    },
+    Fault {
+        name: "three-portions",
+        does: "encode takes three portions",
+        file: "encode.rs",
+        sound: "(portions == 1 || portions == 2)",
+        faulty: "(1..=3).contains(&portions)",
+    },
+    Fault {
+        name: "no-portion",
+        does: "encode takes no portion at all",
+        file: "encode.rs",
+        sound: "(portions == 1 || portions == 2)",
+        faulty: "portions <= 2",
+    },
+    Fault {
+        name: "first-4",
+        does: "encode takes 4 as a first portion",
+        file: "encode.rs",
+        sound: "first <= 3",
+        faulty: "first <= 4",
+    },
+    Fault {
+        name: "portions-cast",
+        does: "the number of portions loses its bits from 8 up, so that 257 is 1",
+        file: "encode.rs",
+        sound: "let odd_pair =",
+        faulty: "let portions = portions % 256;
+    let odd_pair =",
+    },
+    Fault {
+        name: "form-0-again",
+        does: "form 0 is still read, by PEXT's fields",
+        file: "instruction.rs",
+        sound: "Form::ALL.into_iter().find(|form| form.number() == number)",
+        faulty: "let number = if number == 1 { 8 } else { number };
+        Form::ALL.into_iter().find(|form| form.number() == number)",
+    },
+    Fault {
+        name: "form-0-as-before",
+        does: "form 0 is still read as PEXT1 (the reference's lists are read in the check)",
+        file: "../../rust/compare/src/check/mod.rs",
+        sound: "match (form, numbers) {",
+        faulty: "match (form, numbers) {
+        (None, &[0, size, imm2, counter, pd, _, _]) => {
+            let pext = Instruction::from_fields(Form::Pext, [size, imm2, 1, counter, pd, 0]);
+            reference::encode::encode(setting, pext)
+        }",
     },
     Fault {
         name: "index-of-128",
@@ -182,15 +272,15 @@ const FAULTS: &[Fault] = &[
         name: "sme-alone",
         does: "PSEL asks for SME, and SVE2p1 does not do",
         file: "layout.rs",
-        sound: "Form::Psel => setting.has(SME) || setting.has(SVE2P1),",
-        faulty: "Form::Psel => setting.has(SME),",
+        sound: "Row::Psel => setting.has(SME) || setting.has(SVE2P1),",
+        faulty: "Row::Psel => setting.has(SME),",
     },
     Fault {
         name: "sve2-will-do",
         does: "PSEL is also read with SVE2 alone",
         file: "layout.rs",
-        sound: "Form::Psel => setting.has(SME) || setting.has(SVE2P1),",
-        faulty: "Form::Psel => setting.has(SME) || setting.has(SVE2),",
+        sound: "Row::Psel => setting.has(SME) || setting.has(SVE2P1),",
+        faulty: "Row::Psel => setting.has(SME) || setting.has(SVE2),",
     },
     Fault {
         name: "upper-bits",
@@ -222,7 +312,7 @@ const FAULTS: &[Fault] = &[
         does: "encode answers 3 before 9",
         file: "encode.rs",
         sound: "if !in_range(instruction) {",
-        faulty: "if !layout::has_features(instruction.form(), setting) {
+        faulty: "if !layout::has_features(instruction.row(), setting) {
         return Err(Refusal::Undefined);
     }
     if !in_range(instruction) {",
@@ -265,10 +355,10 @@ const FAULTS: &[Fault] = &[
     },
     Fault {
         name: "one-of-the-pair",
-        does: "conflict forgets the second register that PEXT2 writes",
+        does: "conflict forgets the second register that PEXT writes",
         file: "touch.rs",
-        sound: "writes: vec![P(pd), P((pd + 1) % 16)],",
-        faulty: "writes: vec![P(pd)],",
+        sound: "writes: (0..portions).map(",
+        faulty: "writes: (0..portions.min(1)).map(",
     },
     Fault {
         name: "element-unread",

@@ -4,6 +4,7 @@ mod edges;
 mod indexes;
 mod machines;
 mod orders;
+mod retired;
 mod settings;
 mod words;
 
@@ -18,6 +19,7 @@ use self::settings::{length_of_no_vector, setting};
 use self::words::{numbers, stretch, word};
 use crate::case::{Case, Kind, Request};
 
+pub use self::retired::retired_values;
 pub use self::settings::ALLOWED_FEATURES;
 
 /// The stream of one case: cases do not depend on the threads that draw them.

@@ -28,7 +28,7 @@
 use std::hint::black_box;
 use std::process::ExitCode;
 
-use reference::instruction::Form;
+use reference::layout;
 use speed::cases::{Case, FEATURES, Files, Kind, LENGTHS, Machine, UQRSHRNB, W, Words, cases};
 use speed::fail;
 use speed::timing::{Outcome, Rounds, passes_in_a_round, steps, timed};
@@ -87,9 +87,9 @@ fn bar(case: &Case, vl: u32, files: Files) -> f64 {
         // op:U is 01: SHRN and RSHRN, which do not saturate.
         (Kind::Narrow(bits), _) if bits >> 2 == 0b01 => [1.05, 1.2],
         (Kind::Narrow(_), _) => [1.05, 0.9],
-        (Kind::Form(Form::Luti4c | Form::Luti4s), _) => [1.05, 0.4],
-        (Kind::Form(Form::Psel), _) | (Kind::Form(_), Files::Cleared) => [1.05, 1.05],
-        (Kind::Form(_), Files::Random) => [1.05, 0.4],
+        (Kind::Row(layout::Row::Luti4c | layout::Row::Luti4s), _) => [1.05, 0.4],
+        (Kind::Row(layout::Row::Psel), _) | (Kind::Row(_), Files::Cleared) => [1.05, 1.05],
+        (Kind::Row(_), Files::Random) => [1.05, 0.4],
         (Kind::Mixed, _) => [1.0, 0.6],
         (Kind::False | Kind::Refused, _) => [f64::INFINITY; 2],
     };
