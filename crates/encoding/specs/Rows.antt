@@ -1,4 +1,4 @@
--- Document 01, "Layouts", the third and the last as document 02, requests 2 and 1, have them: the six rows of the table, each a layout with its features, its field condition, what its fields are read as, and its name.
+-- Document 01, "Layouts", the first two, the third and the last as document 02, requests 8, 2 and 1, have them: the six rows of the table, each a layout with its features, its field condition, what its fields are read as, and its name.
 use mathlib.Core.Bool.{Bool, true, not, _&&_, _||_}
 use mathlib.Core.List.{List, [], _∷_}
 use Prim.Native.Nat.{ℕ, _+_, _*_}
