@@ -6,8 +6,6 @@ use native.Mathlib.Omega.{arith}
 use lib.Dec.{eqb, ltb, leb, lit<}
 use borrow.Author.Tests.{eqb-true, ltb-true, leb-true}
 use Rattle.element.specs.Size.{isSize, isResult}
-use Rattle.element.specs.Units.{logOf}
-use Rattle.element.specs.Private.{Log}
 use Rattle.element.proofs.Tests.{both-yes}
 use Rattle.element.proofs.Units.{log-is, size-is}
 use Rattle.encoding.specs.Instructions.{isP, isZ, isPortions, pextInRange, isOffset, pselInRange, lutiInRange, narrowInRange, inRange, rawPselBits, rawOf}

@@ -1,6 +1,6 @@
 // The fields that each row reads of a word, whether it matches or not.
 ghost use mathlib.Core.Path.{_≡_};
-ghost use Prim.Native.Nat.{_+_, _*_, _/_, _%_, _^_, _<_};
+ghost use Prim.Native.Nat.{_+_, _*_, _/_, _%_, _^_};
 ghost use Rattle.setting.specs.Numbers.{accept};
 ghost use Rattle.logic.specs.Pick.{pick};
 ghost use Rattle.encoding.specs.Instructions.{narrowSize};
