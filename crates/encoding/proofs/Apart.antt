@@ -1,9 +1,8 @@
 -- Two layouts whose fixed bits disagree on a bit that both fix match no common word: masking by both masks, in either order, gives one number.
-use mathlib.Core.Path.{◌≡◌, refl, sym, ap, ap₂, ◌∙◌}
+use mathlib.Core.Path.{◌≡◌, refl, sym, ap, ◌∙◌}
 use mathlib.Core.Bool.{Bool, true, false, not}
 use mathlib.Core.List.{List}
-use Prim.Native.Nat.{ℕ, ◌+◌, ◌*◌, ◌%◌, ◌/◌, ◌<◌, min}
-use native.Mathlib.Omega.{arith}
+use Prim.Native.Nat.{ℕ}
 use lib.Dec.{T, eqb, T_not, eqb_refl}
 use lib.Bits.{bit_and}
 use Rattle.element.proofs.Masked.{masked_either}

@@ -1,6 +1,6 @@
 -- The code's table has the definition's columns: each by a test that is computed over the rows, and a law that says what one comparison of bits tells. Behind the rows' places there is none: by recursion on their number.
 use mathlib.Core.Path.{◌≡◌, sym, ap, ap₂, ◌∙◌}
-use mathlib.Core.Bool.{true, false, false≢true, ◌||◌}
+use mathlib.Core.Bool.{false, false≢true, ◌||◌}
 use mathlib.Core.List.{List, [], ◌∷◌, map}
 use Prim.Native.Nat.{ℕ, zero, suc, ◌^◌, ◌<◌, ◌≤◌}
 use native.Mathlib.Omega.{arith}

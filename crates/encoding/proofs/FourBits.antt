@@ -1,6 +1,5 @@
 -- A word that is read as a narrowing word has op:U:R:T in its bits 13:10: what is read is some row's reading, and of the other rows there is nothing to show.
 use mathlib.Core.Path.{◌≡◌, ap, ◌∙◌}
-use mathlib.Core.Bool.{true}
 use Prim.Native.Nat.{ℕ, ◌+◌, ◌*◌, ◌/◌, ◌%◌}
 use native.Mathlib.Omega.{arith}
 use Rattle.setting.specs.Allowed.{allowed_of}
