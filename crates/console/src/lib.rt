@@ -1,4 +1,6 @@
 // What a lesson console asks of the machine: a register's bytes, and one step on the scalar record that it lends.
+#![tactic(auto)]
+
 ghost use Rattle.std.specs.Prelude.{◌≡◌, ◌&&◌, eqb, ltb};
 ghost use Rattle.setting.specs.Allowed.{length_allowed};
 ghost use Rattle.setting.specs.Numbers.{number_of};

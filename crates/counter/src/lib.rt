@@ -1,4 +1,6 @@
 // A predicate-as-counter, its mask, and PEXT's portion of it. Only expansion leads from one to the other.
+#![tactic(auto)]
+
 ghost use Rattle.std.specs.Prelude.{◌≡◌, not, ◌+◌, ◌-◌, ◌*◌, ◌%◌, ◌^◌, ◌<◌, max, ltb, length, get_or};
 ghost use Rattle.logic.specs.Pick.{pick};
 ghost use Rattle.element.specs.Size.{zeros};
@@ -10,12 +12,12 @@ ghost use Rattle.counter.specs.Private.{mask_of, every_place, at_places, sampled
 ghost use Rattle.counter.specs.Points.{Claims};
 
 // Sixteen bits that are no mask.
-#[derive(Drop)]
+#[derive(Clone, Copy)]
 pub struct Counter(u16);
 
 // Sixty-four bits of the mask that a counter stands for: those of the number that stand at every 2^z-th place, and z. Only `expand`
 // makes one. The two are put together where other places are asked for too, so that one product gives both.
-#[derive(Drop)]
+#[derive(Clone, Copy)]
 struct Mask(u64, u32);
 
 fn byte(s: &[u8], k: usize) -> u8

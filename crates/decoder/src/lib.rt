@@ -1,4 +1,6 @@
 // Reads words: the place of the row that a word has, and the instruction that its fields are.
+#![tactic(auto)]
+
 mod forms;
 mod layouts;
 

@@ -1,4 +1,6 @@
 // Writes words: the ranges of an instruction's fields, its features, and the word.
+#![tactic(auto)]
+
 pub mod ranges;
 mod words;
 

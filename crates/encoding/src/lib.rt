@@ -1,4 +1,6 @@
 // Layouts, instructions, and what decode and encode mean: the only place that knows a word's bits. `decoder` and `encoder` go by it.
+#![tactic(auto)]
+
 pub mod table;
 
 ghost use Rattle.std.specs.Prelude.{◌≡◌};
@@ -9,7 +11,7 @@ ghost use Rattle.encoding.specs.Claims.{Claims};
 use setting::Answer;
 
 // A word's fields as read: element size and register numbers. No variant is a refusal.
-#[derive(Drop)]
+#[derive(Clone, Copy)]
 pub enum Instruction {
     // One or two portions of a counter's mask, from the first on.
     Pext {
@@ -52,14 +54,14 @@ pub enum Instruction {
     },
 }
 
-#[derive(Drop)]
+#[derive(Clone, Copy)]
 pub enum Decoded {
     Fields(Instruction),
     Refused(Answer),
 }
 
 // The word is 0 where the answer is a refusal.
-#[derive(Drop)]
+#[derive(Clone, Copy)]
 pub struct Encoded {
     pub answer: Answer,
     pub word: u32,

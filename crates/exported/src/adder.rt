@@ -7,7 +7,7 @@ ghost use Rattle.exported.specs.Index.{indexed, indexed_of, indexed_as};
 use index::IndexUnit;
 use setting::Answer;
 
-#[derive(Drop)]
+#[derive(Clone, Copy)]
 struct Indexed {
     answer: Answer,
     unit: IndexUnit,

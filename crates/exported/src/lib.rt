@@ -1,4 +1,6 @@
 // What crosses the C interface as numbers: its version, a reply, the seven numbers of a word, PSEL's index unit, and a register's bytes in a lent buffer.
+#![tactic(auto)]
+
 pub mod adder;
 pub mod replies;
 

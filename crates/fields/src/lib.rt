@@ -1,4 +1,6 @@
 // The fields that each row reads of a word, whether it matches or not.
+#![tactic(auto)]
+
 ghost use Rattle.std.specs.Prelude.{◌≡◌, ◌+◌, ◌*◌, ◌/◌, ◌%◌, ◌^◌};
 ghost use Rattle.setting.specs.Numbers.{accept};
 ghost use Rattle.logic.specs.Pick.{pick};
@@ -9,7 +11,7 @@ ghost use Rattle.encoding.specs.declared.Instruction.TheVariants.{Luti4c, Luti4s
 ghost use Rattle.fields.specs.Operands.{pext_as, psel_as, narrow_as};
 
 // PEXT's, whose size is 8 · 2^log.
-#[derive(Drop)]
+#[derive(Clone, Copy)]
 pub struct PextOperands {
     pub log: u32,
     pub first: u32,
@@ -19,7 +21,7 @@ pub struct PextOperands {
 }
 
 // PSEL's, by the log too; one of 4 or more is no size's.
-#[derive(Drop)]
+#[derive(Clone, Copy)]
 pub struct PselOperands {
     pub log: u32,
     pub offset: u32,
@@ -30,7 +32,7 @@ pub struct PselOperands {
 }
 
 // LUTI4's.
-#[derive(Drop)]
+#[derive(Clone, Copy)]
 pub struct LutiOperands {
     pub size: u32,
     pub i1: u32,
@@ -39,7 +41,7 @@ pub struct LutiOperands {
 }
 
 // The narrowing words'; the size is the result's.
-#[derive(Drop)]
+#[derive(Clone, Copy)]
 pub struct NarrowOperands {
     pub op: bool,
     pub u: bool,

@@ -1,5 +1,7 @@
 // The C interface: numbers, slices (a pointer, then a length) and the scalar record cross it. include/gighull.h declares it for C.
 // A function answers document 01's number, and leaves its values in what is lent to it.
+#![tactic(auto)]
+
 ghost use Rattle.std.specs.Prelude.{◌≡◌};
 ghost use Rattle.machine.specs.Machine.{machine, scalars_of};
 ghost use Rattle.machine.specs.Step.{step_of, step_as};

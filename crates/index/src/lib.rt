@@ -1,4 +1,6 @@
 // PSEL's index, as the hardware lab builds it: an adder of 32 bits, and a mask.
+#![tactic(auto)]
+
 ghost use Rattle.std.specs.Prelude.{◌≡◌, ◌+◌, ◌-◌, ◌/◌, ◌%◌, ◌^◌, ◌<◌, true};
 ghost use Rattle.setting.specs.Allowed.{length_allowed};
 ghost use Rattle.logic.specs.Pick.{pick};
@@ -7,7 +9,7 @@ ghost use Rattle.index.specs.Index.{unit_of, has_unit, no_unit};
 ghost use Rattle.index.specs.Claims.{Claims};
 
 // What the index unit has on its wires: the adder's sum, the mask, and the index.
-#[derive(Drop)]
+#[derive(Clone, Copy)]
 pub struct IndexUnit {
     pub sum: u32,
     pub mask: u32,

@@ -1,4 +1,6 @@
 // One step of the machine, and a run of them, on lent files: a word read, its access tested, its operation done, and PC advanced.
+#![tactic(auto)]
+
 mod forms;
 
 ghost use Rattle.std.specs.Prelude.{◌≡◌, ◌≤◌, [], ◌∷◌, length, nat_le};

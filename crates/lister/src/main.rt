@@ -1,4 +1,6 @@
 // Lists the words on standard input. It only moves buffers: what it writes is listing's.
+#![tactic(auto)]
+
 ghost use Rattle.std.specs.Prelude.{◌≡◌, ◌*◌, ◌/◌, ◌≤◌, length};
 
 use libc::{STDIN_FILENO, STDOUT_FILENO};
@@ -9,7 +11,7 @@ const INPUT: usize = 65538;
 const TEXT: usize = 311296;
 
 // Whether to go on, and how many bytes wait at the front of the buffer.
-#[derive(Drop)]
+#[derive(Clone, Copy)]
 struct State {
     more: bool,
     kept: usize,

@@ -1,4 +1,6 @@
 // Lists words into a lent buffer: a line of the text that the crate `text` defines for each record of four bytes.
+#![tactic(auto)]
+
 ghost use Rattle.std.specs.Prelude.{◌≡◌, ◌*◌, ◌/◌, ◌%◌, ◌≤◌, ◌<◌, min, length, take};
 ghost use Rattle.text.specs.Text.{glyph_of, hex_digits};
 ghost use Rattle.logic.specs.Pick.{pick};
@@ -12,7 +14,7 @@ use encoding::table::{NAMES, ROWS};
 use setting::Setting;
 
 // How many bytes of the input were listed, and how many bytes of text that gave.
-#[derive(Drop)]
+#[derive(Clone, Copy)]
 pub struct Listed {
     pub read: usize,
     pub written: usize,

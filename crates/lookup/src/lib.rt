@@ -1,4 +1,6 @@
 // LUTI4 on a lent vector file.
+#![tactic(auto)]
+
 mod table;
 
 ghost use Rattle.std.specs.Prelude.{◌≡◌, length};

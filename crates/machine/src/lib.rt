@@ -1,12 +1,14 @@
 // The scalar record, and what a step and a run answer. What they mean, and the theorems about it, stand in specs/ and proofs/; the
 // crate `interpreter` does it.
+#![tactic(auto)]
+
 ghost use Rattle.machine.specs.Claims.{Claims};
 
 use setting::Answer;
 
 // W12 to W15 and PC, with the access flags: V, vector access open; S, streaming on and open; T, ZT0 on and open.
 #[repr(C)]
-#[derive(Drop)]
+#[derive(Clone, Copy)]
 pub struct Scalars {
     pub w12: u32,
     pub w13: u32,
@@ -18,14 +20,14 @@ pub struct Scalars {
     pub t: bool,
 }
 
-#[derive(Drop)]
+#[derive(Clone, Copy)]
 pub struct Stepped {
     pub answer: Answer,
     pub scalars: Scalars,
 }
 
 // The answer of a run, and how many words were done.
-#[derive(Drop)]
+#[derive(Clone, Copy)]
 pub struct Ran {
     pub answer: Answer,
     pub done: usize,

@@ -4,7 +4,7 @@ ghost use Rattle.narrowing.specs.Narrowing.{term};
 ghost use Rattle.narrow.specs.Private.{Sized, Prepared};
 
 // A signed element lies from lo to hi. An unsigned one above top is cut; h is the rounding term.
-#[derive(Drop)]
+#[derive(Clone, Copy)]
 pub(crate) struct Bounds {
     pub lo: i64,
     pub hi: i64,

@@ -1,4 +1,6 @@
 // The sixteen narrowing words on a lent vector file.
+#![tactic(auto)]
+
 mod bounds;
 mod classes;
 mod elements;

@@ -1,4 +1,6 @@
 // An instruction as seven numbers, and back. A form that is not in the table, and a list of another length, are out of range.
+#![tactic(auto)]
+
 ghost use Rattle.std.specs.Prelude.{◌≡◌};
 ghost use Rattle.setting.specs.Numbers.{accept};
 ghost use Rattle.logic.specs.Pick.{pick};

@@ -1,4 +1,6 @@
 // PEXT on a lent predicate file. The source is read first; then the destination's slot is lent on, so no other byte can change.
+#![tactic(auto)]
+
 ghost use Rattle.std.specs.Prelude.{◌≡◌, ◌/◌, ◌<◌, length};
 ghost use Rattle.element.specs.Units.{size_at};
 ghost use Rattle.element.specs.Contents.{elem};

@@ -1,4 +1,6 @@
 // PSEL on a lent predicate file. Sources are read first; then the destination's slot is lent on, so no other byte can change.
+#![tactic(auto)]
+
 mod selection;
 
 ghost use Rattle.std.specs.Prelude.{◌≡◌, ◌+◌, ◌/◌, length};

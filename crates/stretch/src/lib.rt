@@ -1,4 +1,6 @@
 // A stretch of words: whether two words conflict, and whether a rearrangement is permitted. The run stands in `interpreter`.
+#![tactic(auto)]
+
 mod tables;
 mod touch;
 
@@ -12,7 +14,7 @@ use setting::{Answer, Setting};
 use touch::Reading;
 
 // What a question about words answers. `reply_as` has the number and value of each.
-#[derive(Drop)]
+#[derive(Clone, Copy)]
 pub enum Reply {
     Yes,
     No,

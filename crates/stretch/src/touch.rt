@@ -11,13 +11,13 @@ use encoding::{Decoded, Instruction};
 use setting::{Answer, Setting};
 
 // The registers that a word writes, and all that it reads or writes.
-#[derive(Drop)]
+#[derive(Clone, Copy)]
 pub(crate) struct Touch {
     pub(crate) writes: u64,
     pub(crate) touched: u64,
 }
 
-#[derive(Drop)]
+#[derive(Clone, Copy)]
 pub(crate) enum Reading {
     Touches(Touch),
     Refused(Answer),

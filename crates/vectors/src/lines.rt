@@ -2,7 +2,7 @@
 use libc::{STDIN_FILENO, STDOUT_FILENO};
 
 // A number of the input, or that there is none left.
-#[derive(Drop)]
+#[derive(Clone, Copy)]
 struct Number {
     there: bool,
     value: u32,

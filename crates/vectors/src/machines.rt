@@ -10,14 +10,14 @@ use machine::{Ran, Scalars};
 use setting::Setting;
 
 // One word, or the words that are lent beside the task.
-#[derive(Drop)]
+#[derive(Clone, Copy)]
 pub(crate) enum Task {
     Step(u32),
     Run,
 }
 
 // What is asked: the setting, the sixteen numbers in the order above, and the task of the machine made from them.
-#[derive(Drop)]
+#[derive(Clone, Copy)]
 pub(crate) struct Asked {
     pub(crate) setting: Setting,
     pub(crate) start: [u32; 16],
@@ -39,7 +39,7 @@ pub(crate) fn start_at(place: usize, first: &[u32; 9], rest: &[u32; 11]) -> [u32
 }
 
 // What the files are made from.
-#[derive(Drop)]
+#[derive(Clone, Copy)]
 struct Contents {
     seed: u64,
     p_at: u32,

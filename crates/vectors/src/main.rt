@@ -3,6 +3,8 @@
 // A question is a line of nine numbers or more, each of eight hex digits, and the first is its kind. A module has some
 // kinds and says at its head what their questions and answers are: it is given the nine numbers, reads what more the
 // question has, and writes the answer.
+#![tactic(auto)]
+
 mod forms;
 mod generator;
 mod lines;

@@ -1,5 +1,7 @@
 // A word's operation under the access that it needs, on the file that it is lent: 4, 5 or 6 with the file as it was, or done. The fields
 // come as numbers, and PC is left to the caller.
+#![tactic(auto)]
+
 mod access;
 
 ghost use Rattle.std.specs.Prelude.{◌≡◌, [], ◌∷◌};
