@@ -59,7 +59,7 @@ fn values(setting: Setting, question: &[u32; 9]) -> [u32; 8] {
     )
 }
 
-pub(crate) fn answer(setting: Setting, question: &[u32; 9]) -> bool {
+pub(crate) fn answer(rt: &HostRuntime, setting: Setting, question: &[u32; 9]) -> bool {
     let line = values(setting, question);
-    lines::write(&line)
+    lines::write(rt, &line)
 }
