@@ -1,0 +1,12 @@
+-- `at_places` meets its contract: of two sizes the larger's places are those of both.
+use mathlib.Core.Path.{ap, ◌∙◌}
+use lib.Bits.{bit_and}
+use Rattle.counter.specs.Private.{every_place}
+use Rattle.counter.proofs.Masks.{both_sizes}
+use Rattle.counter.proofs.at_places.Goals as goal
+
+pub returns : goal.returns
+returns c =
+    let s = c in
+    let m = s.args.m in
+    ap (bit_and m.0) (c.places.ensures ∙ ap every_place c.maximum.ensures) ∙ both_sizes m.0 m.1 s.args.s s.requires.0 s.requires.1
