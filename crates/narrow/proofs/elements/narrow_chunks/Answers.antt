@@ -1,10 +1,22 @@
-use Rattle.std.proofs.Common.{rules, ◌≡◌, ◌*◌, length, ℕ, ◌+◌, ◌-◌, ◌<◌, ◌≤◌, ◌/◌, ◌%◌, Bool, true, false, nat_eq, nat_lt, List, [], ◌∷◌, ◌++◌, slice_index_or, slice_set, bit_and, bit_or, Fits, w8, w32, w64, Bor, MutBor}
-use Rattle.element.specs.Contents.{elem, fill}
+-- `narrow_chunks` meets its contract: what was copied is Zn's slot, and Zd's comes back with what `narrow_parts` made of both.
+use mathlib.Core.Path.{ap, ◌∙◌}
+use Prim.Native.Nat.{◌*◌}
+use native.Mathlib.Nat.{mul_assoc}
+use native.Mathlib.Omega.{arith}
+use lib.ListN.{length}
+use lib.Seq.{take_at}
+use Rattle.element.proofs.Slots.{slot_part, slot_length}
 use Rattle.narrowing.specs.Narrowing.{form}
 use Rattle.narrowing.specs.Registers.{element}
-use Rattle.narrow.specs.Private.{EachReady, PartsReady, ChunksReady, chunks_of}
+use Rattle.narrow.proofs.Chunks.{slot_made}
 use Rattle.narrow.proofs.elements.narrow_chunks.Goals as goal
 
--- src/elements.rt:70:1
 pub returns : goal.returns
-returns c = ?
+returns c =
+    let a = c.args in
+    let m = a.n * (a.per * a.w) in
+    let z = a.z.now in
+    let e = c.copy_from_slice.ensures.after ∙ slot_part 256 m a.zn z (omega arith) in
+    slot_made (element (form a.op a.u) a.r a.t (4 * a.w) a.shift) a.w (a.n * a.per) m a.zn a.zd z _ (omega arith) (mul_assoc a.n a.per a.w)
+        (take_at c.copy_from_slice.new.self _ m (ap length e ∙ slot_length 256 m a.zn z (omega arith)) ∙ e)
+        c.narrow_parts.ensures
