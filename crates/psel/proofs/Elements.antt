@@ -2,7 +2,7 @@
 use mathlib.Core.Path.{◌≡◌, refl, sym, ◌∙◌}
 use mathlib.Core.Bool.{Bool, true, false}
 use mathlib.Core.List.{List}
-use Prim.Native.Nat.{ℕ, zero, suc, ◌+◌, ◌-◌, ◌*◌, ◌/◌, ◌%◌, ◌^◌, ◌≤◌, ◌<◌}
+use Prim.Native.Nat.{ℕ, zero, suc, ◌+◌, ◌*◌, ◌/◌, ◌%◌, ◌^◌, ◌≤◌, ◌<◌}
 use native.Mathlib.Nat.{mod-eq_of_lt}
 use native.Mathlib.Omega.{arith}
 use lib.Bits.{bit_and, and_zero_r, and_mask}
@@ -43,7 +43,7 @@ module _ (vl z : ℕ) (small : z < 4) (allowed : length_allowed vl ≡ true) whe
 -- of a slot the low bytes are the slot's own
 pub slot_low : (size n m k : ℕ) (f : List ℕ) → n ≤ m → size * k + m ≤ length f → take n (slot size m k f) ≡ slot size n k f
 slot_low size n m k f l h =
-    rw (← slot_part size m k f h, ← slot_part size n k f (omega arith), reach, reach) (take-take n m (drop (size * k) f) l)
+    rw (← slot_part size m k f h, ← slot_part size n k f (omega arith), reach (size * k) m, reach (size * k) n) (take-take n m (drop (size * k) f) l)
 
 pub psel_length : (vl size sum : ℕ) (pn pm : List ℕ) → length pn ≡ vl / 64 → length (psel_of vl size sum pn pm) ≡ vl / 64
 unfolding psel_of
