@@ -1,4 +1,4 @@
-/* The proved library's C interface: crates/gighull, built by `rt staticlib gighull` to target/staticlib/libgighull.a.
+/* The proved library's C interface: crates/gighull, built by `./library` to target/staticlib/libgighull.a.
  * A slice is a pointer and a length (in elements). A pointer of length 0 is not read, and may be null. A function that
  * answers a number answers document 01's. There is no 7: it was for a LUTI4 index position at or past VL/4, which never
  * comes, and it is not used again.

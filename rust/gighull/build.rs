@@ -1,7 +1,7 @@
 //! Links the proved library, target/staticlib/libgighull.a of this repository.
 //!
 //! Where the archive is missing, or is older than the crates that it is made
-//! of, the kit proves and writes it (`rt staticlib gighull`, which may take
+//! of, the kit proves and writes it (`./library`, which may take
 //! minutes), and a warning says so. The environment variable
 //! GIGHULL_STATICLIB names a folder with another archive; that one is taken as
 //! it is, whatever its age, and a warning says so too.
@@ -78,13 +78,11 @@ fn own(root: &Path) -> PathBuf {
         Some(made) if made < newest => "is older than its crates",
         Some(_) => return folder,
     };
-    println!("cargo::warning=target/staticlib/{ARCHIVE} {reason}: rt staticlib gighull");
-    let status = Command::new("rt")
-        .args(["staticlib", "gighull"])
-        .current_dir(root)
+    println!("cargo::warning=target/staticlib/{ARCHIVE} {reason}: ./library");
+    let status = Command::new(root.join("library"))
         .status()
-        .expect("the Rattle kit's rt is on the path");
-    assert!(status.success(), "rt staticlib gighull: {status}");
+        .expect("the repository has its script `library`");
+    assert!(status.success(), "./library: {status}");
     // The kit may leave an archive alone that is still right.
     fs::File::open(&archive)
         .and_then(|file| file.set_modified(SystemTime::now()))
@@ -101,7 +99,7 @@ fn sources(root: &Path) -> Vec<PathBuf> {
     let needs = |name: &str| {
         let line = text.lines().find_map(|line| {
             let (start, rest) = line.split_once(':')?;
-            (start == name).then_some(rest)
+            (start.split_whitespace().next() == Some(name)).then_some(rest)
         });
         line.unwrap_or("").split_whitespace()
     };

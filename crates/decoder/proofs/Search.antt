@@ -2,7 +2,7 @@
 use mathlib.Core.Path.{◌≡◌, refl, sym, ap, ap₂, ◌∙◌}
 use mathlib.Core.Bool.{Bool, true, false, ◌&&◌, and_assoc, and-false}
 use mathlib.Core.List.{List, [], ◌∷◌, map}
-use Prim.Native.Nat.{ℕ, zero, suc, ◌+◌, ◌-◌, ◌<◌, ◌≤◌}
+use Prim.Native.Nat.{ℕ, zero, suc, ◌+◌, ◌<◌, ◌≤◌}
 use native.Mathlib.Omega.{arith}
 use native.Mathlib.Decide.{ℕ_discrete}
 use lib.Dec.{T, eqb, eqb→eq, ltb, ltb→lt}
@@ -42,6 +42,10 @@ pub without_rest : (k f w : ℕ) {b : Bool} → k < length rows → b ≡ rest_a
 without_rest k f w l h e = sym (tested k f w l refl h) ∙ ap (λ (x : Bool). has_layout k w && x) e ∙ and-false (has_layout k w)
 
 -- ---- by turns, in any order that has every place
+-- the code's order
+abbrev pub turns_of_code : List ℕ
+turns_of_code = 0 ∷ 5 ∷ 1 ∷ 2 ∷ 3 ∷ 4 ∷ []
+
 -- the first turn of a place; the number of turns where it has none
 abbrev pub turn_of : List ℕ → ℕ → ℕ
 turn_of [] k = 0

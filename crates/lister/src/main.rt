@@ -3,7 +3,7 @@
 
 ghost use Rattle.std.specs.Prelude.{◌≡◌, ◌*◌, ◌/◌, ◌≤◌, length};
 
-use libc::{STDIN_FILENO, STDOUT_FILENO};
+use std::io::{Read, Write};
 
 // Not a multiple of 4: an input longer than the buffer has a record across its edge.
 const INPUT: usize = 65538;
@@ -18,37 +18,39 @@ struct State {
 }
 
 // Writes the lines of all of input, for which out has room, and answers whether all went out.
-fn list(input: &[u8], out: &mut [u8]) -> bool
+fn list<W: Write>(writer: &mut W, input: &[u8], out: &mut [u8]) -> bool
     requires { length input.now ≤ 4 * (length out.old / 19) }
 {
     let listed = listing::lines(input, out);
     let n = listed.written;
-    io::write_all(STDOUT_FILENO, &out[..n])
+    writer.write_all(&out[..n]).is_ok()
 }
 
 // Reads once behind the bytes kept, lists the whole records, and keeps the bytes behind them; at
 // the end of the input lists those.
-fn turn(buf: &mut [u8], out: &mut [u8], kept: usize) -> State
+fn turn<R: Read, W: Write>(reader: &mut R, writer: &mut W, buf: &mut [u8], out: &mut [u8], kept: usize) -> State
     requires { (kept ≤ 3) × (length buf.old ≡ 65538) × (length out.old ≡ 311296) }
     ensures { result.kept ≤ 3 }
 {
-    let got = libc::read(STDIN_FILENO, &mut buf[kept..]);
-    if got < 0 {
-        return State {
-            more: false,
-            kept: 0,
-        };
-    }
+    let got = match reader.read(&mut buf[kept..]) {
+        Ok(got) => got,
+        Err(_) => {
+            return State {
+                more: false,
+                kept: 0,
+            };
+        }
+    };
     if got == 0 {
-        list(&buf[..kept], out);
+        list(writer, &buf[..kept], out);
         return State {
             more: false,
             kept: 0,
         };
     }
-    let n = kept + io::count(got, &buf[kept..]);
+    let n = kept + got;
     let whole = n / 4 * 4;
-    let more = list(&buf[..whole], out);
+    let more = list(writer, &buf[..whole], out);
     let left = listing::carry(&mut buf[..n]);
     State {
         more: more,
@@ -57,13 +59,13 @@ fn turn(buf: &mut [u8], out: &mut [u8], kept: usize) -> State
 }
 
 // A proved loop has to end, so this one counts its turns down, from a number that no run uses up.
-fn all(buf: &mut [u8], out: &mut [u8])
+fn all<R: Read, W: Write>(reader: &mut R, writer: &mut W, buf: &mut [u8], out: &mut [u8])
     requires { (length buf.old ≡ 65538) × (length out.old ≡ 311296) }
 {
     let mut turns = u64::MAX;
     let mut kept = 0;
     while turns > 0 {
-        let t = turn(buf, out, kept);
+        let t = turn(reader, writer, buf, out, kept);
         if !t.more {
             return;
         }
@@ -72,8 +74,10 @@ fn all(buf: &mut [u8], out: &mut [u8])
     }
 }
 
-fn main() {
+fn main(rt: HostRuntime) {
+    let mut reader = rt.stdin();
+    let mut writer = rt.stdout();
     let mut buf = [0u8; INPUT];
     let mut out = [0u8; TEXT];
-    all(&mut buf, &mut out);
+    all(&mut reader, &mut writer, &mut buf, &mut out);
 }

@@ -1,7 +1,7 @@
 -- Where T puts a result: it has s bits, and so the two halves of an element do not touch.
 use mathlib.Core.Path.{◌≡◌, ap, ◌∙◌}
 use mathlib.Core.Bool.{Bool}
-use Prim.Native.Nat.{ℕ, ◌+◌, ◌-◌, ◌*◌, ◌/◌, ◌%◌, ◌^◌, ◌<◌}
+use Prim.Native.Nat.{ℕ, ◌+◌, ◌*◌, ◌/◌, ◌%◌, ◌^◌, ◌<◌}
 use native.Mathlib.Nat.{mod-lt, mod-eq_of_lt, div-eq_of_lt, mul-add-mod_self_left, mul-add-div, add_comm}
 use native.Mathlib.Omega.{arith}
 use lib.Pow.{pow_pos}

@@ -23,7 +23,7 @@ module _ {M : Type 0} (refusal : ℕ → M → ℕ) (exec : ℕ → M → M) (co
       let a : refusal v m ≡ 0 = head_taken refusal exec v (w ∷ ws) n m e in
       let b : refusal w (exec v m) ≡ 0 = head_taken refusal exec w ws (suc n) (exec v m) (tail_taken refusal exec v (w ∷ ws) n m e) in
       taken refusal exec w (v ∷ ws) n m (sym (I.kept v w m c) ∙ b)
-      ∙ taken refusal exec v ws (suc n) (exec w m) (I.Kept-back v w m c ∙ a)
+      ∙ taken refusal exec v ws (suc n) (exec w m) (I.kept_back v w m c ∙ a)
       ∙ ap (steps refusal exec ws (suc (suc n))) (sym (I.swap v w m c))
       ∙ sym (taken refusal exec v (w ∷ ws) n m a ∙ taken refusal exec w ws (suc n) (exec v m) b)
 

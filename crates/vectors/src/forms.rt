@@ -13,13 +13,13 @@ fn form_of(kind: u32) -> u32 {
     if kind > 10 {
         return kind - 5;
     }
-    std::num::wrapping_sub_u32(kind, 1)
+    kind.wrapping_sub(1)
 }
 
 fn fields(instruction: Instruction) -> [u32; 8] {
     let mut n = [0u32; 7];
     numbers::put(instruction, &mut n);
-    let form = std::num::wrapping_add_u32(n[0], 1);
+    let form = n[0].wrapping_add(1);
     [0, form, n[1], n[2], n[3], n[4], n[5], n[6]]
 }
 
@@ -59,7 +59,7 @@ fn values(setting: Setting, question: &[u32; 9]) -> [u32; 8] {
     )
 }
 
-pub(crate) fn answer(setting: Setting, question: &[u32; 9]) -> bool {
+pub(crate) fn answer(rt: &HostRuntime, setting: Setting, question: &[u32; 9]) -> bool {
     let line = values(setting, question);
-    lines::write(&line)
+    lines::write(rt, &line)
 }

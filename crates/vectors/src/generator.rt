@@ -20,8 +20,8 @@ fn product(a: u32, b: u32) -> u64 {
 fn times(a: u64, b: u64) -> u64 {
     let first = low(product(high(a), low(b)));
     let second = low(product(low(a), high(b)));
-    let crossed = std::num::wrapping_add_u32(first, second);
-    std::num::wrapping_add_u64(product(low(a), low(b)), joined(crossed, 0))
+    let crossed = first.wrapping_add(second);
+    product(low(a), low(b)).wrapping_add(joined(crossed, 0))
 }
 
 fn output(state: u64) -> u64 {
@@ -37,7 +37,7 @@ pub(crate) fn fill(file: &mut [u8], from: u64) -> u64 {
     let mut i: usize = 0;
     while i < file.len() {
         if i % 8 == 0 {
-            state = std::num::wrapping_add_u64(state, 0x9e3779b97f4a7c15);
+            state = state.wrapping_add(0x9e3779b97f4a7c15);
             rest = output(state);
         }
         file[i] = (rest % 256) as u8;

@@ -1,5 +1,5 @@
 // Lines of numbers on standard input and output: each number is eight hex digits and the byte that follows them.
-use libc::{STDIN_FILENO, STDOUT_FILENO};
+use std::io::{Read, Write};
 
 // A number of the input, or that there is none left.
 #[derive(Clone, Copy)]
@@ -23,9 +23,10 @@ fn value_of(text: &[u8; 9]) -> u32 {
     value
 }
 
-fn next_number() -> Number {
+fn next_number(rt: &HostRuntime) -> Number {
     let mut text = [0u8; 9];
-    if io::read_full(STDIN_FILENO, &mut text) < 9 {
+    let mut reader = rt.stdin();
+    if reader.read_exact(&mut text).is_err() {
         return Number {
             there: false,
             value: 0,
@@ -38,11 +39,11 @@ fn next_number() -> Number {
 }
 
 // The next n numbers of the input into the first n places; false where it ends before, or the places are fewer.
-pub(crate) fn read(places: &mut [u32], n: u32) -> bool {
+pub(crate) fn read(rt: &HostRuntime, places: &mut [u32], n: u32) -> bool {
     let mut i: u32 = 0;
     while i < n {
         let at = i as usize;
-        let number = next_number();
+        let number = next_number(rt);
         if !number.there || at >= places.len() {
             return false;
         }
@@ -79,14 +80,15 @@ fn text_of(value: u32, after: u8) -> [u8; 9] {
 }
 
 // Takes the array, not a slice: its length is then known.
-fn print(text: &[u8; 9]) -> bool {
-    io::write_all(STDOUT_FILENO, text)
+fn print(rt: &HostRuntime, text: &[u8; 9]) -> bool {
+    let mut writer = rt.stdout();
+    writer.write_all(text).is_ok()
 }
 
 // The first number of a line that goes on; false where it was not written whole.
-pub(crate) fn begin(first: u32) -> bool {
+pub(crate) fn begin(rt: &HostRuntime, first: u32) -> bool {
     let text = text_of(first, b' ');
-    print(&text)
+    print(rt, &text)
 }
 
 fn after(last: bool) -> u8 {
@@ -94,11 +96,11 @@ fn after(last: bool) -> u8 {
 }
 
 // A line of these numbers; false where it was not written whole.
-pub(crate) fn write(line: &[u32]) -> bool {
+pub(crate) fn write(rt: &HostRuntime, line: &[u32]) -> bool {
     let mut i: usize = 0;
     while i < line.len() {
         let text = text_of(line[i], after(i == line.len() - 1));
-        if !print(&text) {
+        if !print(rt, &text) {
             return false;
         }
         i += 1;

@@ -16,9 +16,9 @@ mod stretches;
 use setting::Setting;
 
 // One question and its answer; false where the input ends, or has a kind that no module answers.
-fn answer_next() -> bool {
+fn answer_next(rt: &HostRuntime) -> bool {
     let mut question = [0u32; 9];
-    if !lines::read(&mut question, 9) {
+    if !lines::read(rt, &mut question, 9) {
         return false;
     }
     let setting = Setting {
@@ -26,19 +26,19 @@ fn answer_next() -> bool {
         features: question[2],
     };
     match question[0] {
-        0..=6 | 11 | 12 => forms::answer(setting, &question),
-        7 => steps::answer(setting, &question),
-        8 => stretches::conflict(setting, &question),
-        9 => runs::answer(setting, &question),
-        10 => stretches::permission(setting, &question),
+        0..=6 | 11 | 12 => forms::answer(rt, setting, &question),
+        7 => steps::answer(rt, setting, &question),
+        8 => stretches::conflict(rt, setting, &question),
+        9 => runs::answer(rt, setting, &question),
+        10 => stretches::permission(rt, setting, &question),
         _ => false,
     }
 }
 
 // The loop counts down from a number of questions that no input has, since a proved loop ends.
-fn main() {
+fn main(rt: HostRuntime) {
     let mut left = u64::MAX;
-    while left > 0 && answer_next() {
+    while left > 0 && answer_next(&rt) {
         left -= 1;
     }
 }

@@ -7,10 +7,10 @@ use crate::{lines, machines};
 use setting::Setting;
 
 // False also where there are more words than the buffer has places: no question has so many.
-pub(crate) fn answer(setting: Setting, first: &[u32; 9]) -> bool {
+pub(crate) fn answer(rt: &HostRuntime, setting: Setting, first: &[u32; 9]) -> bool {
     let mut rest = [0u32; 11];
     let mut words = [0u32; 520];
-    if !lines::read(&mut rest, 11) || !lines::read(&mut words, rest[10]) {
+    if !lines::read(rt, &mut rest, 11) || !lines::read(rt, &mut words, rest[10]) {
         return false;
     }
     let asked = Asked {
@@ -19,5 +19,5 @@ pub(crate) fn answer(setting: Setting, first: &[u32; 9]) -> bool {
         task: Task::Run,
     };
     let line = machines::answer(asked, lines::prefix(&words, rest[10]));
-    lines::write(&line)
+    lines::write(rt, &line)
 }

@@ -6,9 +6,9 @@ use crate::machines::{Asked, Task};
 use crate::{lines, machines};
 use setting::Setting;
 
-pub(crate) fn answer(setting: Setting, first: &[u32; 9]) -> bool {
+pub(crate) fn answer(rt: &HostRuntime, setting: Setting, first: &[u32; 9]) -> bool {
     let mut rest = [0u32; 11];
-    if !lines::read(&mut rest, 11) {
+    if !lines::read(rt, &mut rest, 11) {
         return false;
     }
     let asked = Asked {
@@ -17,5 +17,5 @@ pub(crate) fn answer(setting: Setting, first: &[u32; 9]) -> bool {
         task: Task::Step(first[3]),
     };
     let line = machines::answer(asked, &[]);
-    lines::begin(line[0]) && lines::write(&line[2..])
+    lines::begin(rt, line[0]) && lines::write(rt, &line[2..])
 }

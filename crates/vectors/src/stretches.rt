@@ -15,20 +15,20 @@ fn told(reply: Reply) -> [u32; 2] {
     }
 }
 
-pub(crate) fn conflict(setting: Setting, first: &[u32; 9]) -> bool {
+pub(crate) fn conflict(rt: &HostRuntime, setting: Setting, first: &[u32; 9]) -> bool {
     let reply = told(stretch::conflict(setting, first[3], first[4]));
-    lines::write(&[reply[0], reply[1], 0, 0, 0, 0, 0, 0])
+    lines::write(rt, &[reply[0], reply[1], 0, 0, 0, 0, 0, 0])
 }
 
 // False also where a list is longer than its buffer: no question has so long a one.
-pub(crate) fn permission(setting: Setting, first: &[u32; 9]) -> bool {
+pub(crate) fn permission(rt: &HostRuntime, setting: Setting, first: &[u32; 9]) -> bool {
     let mut words = [0u32; 520];
     let mut order = [0u32; 520];
-    if !lines::read(&mut words, first[3]) || !lines::read(&mut order, first[4]) {
+    if !lines::read(rt, &mut words, first[3]) || !lines::read(rt, &mut order, first[4]) {
         return false;
     }
     let words = lines::prefix(&words, first[3]);
     let order = lines::prefix(&order, first[4]);
     let reply = told(stretch::permitted(setting, words, order));
-    lines::write(&reply)
+    lines::write(rt, &reply)
 }

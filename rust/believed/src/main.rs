@@ -84,11 +84,11 @@ fn count() -> Result<(Vec<String>, Vec<Reached>), String> {
     Ok((crates, definitions))
 }
 
-/// The names in crates.txt, whose lines are `NAME: DEP DEP ..`.
+/// The names in crates.txt, whose lines are `NAME: DEP DEP ..`, or `NAME staticlib: DEP ..`.
 fn crates_in(text: &str) -> Vec<String> {
     let lines = text.lines().filter(|line| !line.starts_with('#'));
     lines
-        .filter_map(|line| Some(line.split_once(':')?.0.to_string()))
+        .filter_map(|line| Some(line.split_once(':')?.0.split_whitespace().next()?.to_string()))
         .collect()
 }
 

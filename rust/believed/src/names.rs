@@ -12,20 +12,25 @@ pub struct Use {
     pub names: Vec<String>,
 }
 
-/// Reads `use Rattle·CRATE.specs.FILE.{a, b}`, or the same from `Rattle·CRATE·specs.specs`. There is
-/// none where the names are the kit's, or are made from the code's types (`specs.declared`).
+/// The kit's libraries that definitions and promises name; every other name behind `Rattle.` is a crate's.
+const KIT: [&str; 1] = ["std"];
+
+/// Reads `use Rattle.CRATE.specs.FILE.{a, b}`. There is none where the names are the kit's, or are made
+/// from the code's types (`specs.declared`).
 pub fn read_use(line: &str) -> Result<Option<Use>, String> {
     let line = line.trim().trim_end_matches(';');
     let line = line.strip_prefix("ghost ").unwrap_or(line);
-    let Some(path) = line.strip_prefix("use Rattle·") else {
+    let Some(path) = line.strip_prefix("use Rattle.") else {
         return Ok(None);
     };
+    if KIT.iter().any(|name| path.starts_with(&format!("{name}."))) {
+        return Ok(None);
+    }
     let unread = || format!("this use line cannot be read: {line}");
     let (owner, rest) = path.split_once(".specs.").ok_or_else(unread)?;
     if rest.starts_with("declared.") {
         return Ok(None);
     }
-    let owner = owner.strip_suffix("·specs").unwrap_or(owner);
     let (file, names) = rest.split_once(".{").ok_or_else(unread)?;
     let names = names.strip_suffix('}').ok_or_else(unread)?;
     Ok(Some(Use {
@@ -38,7 +43,7 @@ pub fn read_use(line: &str) -> Result<Option<Use>, String> {
 }
 
 pub fn is_in_name(c: char) -> bool {
-    c.is_alphanumeric() || matches!(c, '-' | '_' | '′' | '·')
+    c.is_alphanumeric() || matches!(c, '-' | '_' | '\'')
 }
 
 /// The name that a text begins with; empty where it begins with none.
@@ -47,7 +52,7 @@ pub fn first_name(text: &str) -> &str {
     &text[..end]
 }
 
-/// The names in a text, but for the field of a projection (`r .field`) and of a record's value
+/// The names in a text, but for the field of a projection (`r.field`) and of a record's value
 /// (`record { field = ..; field = .. }`).
 pub fn mentioned(text: &str) -> Vec<String> {
     let mut names = Vec::new();
@@ -74,16 +79,16 @@ mod tests {
 
     #[test]
     fn names_are_whole_and_fields_are_not_names() {
-        assert_eq!(mentioned("f x′ (r .size) a-b"), ["f", "x′", "r", "a-b"]);
+        assert_eq!(mentioned("f x' (g r.size) a-b"), ["f", "x'", "g", "r", "a-b"]);
         assert_eq!(
             mentioned("record { at = k; bank = b }"),
             ["record", "k", "b"]
         );
-        assert_eq!(mentioned("λ i. isRead i"), ["λ", "i", "isRead", "i"]);
+        assert_eq!(mentioned("λ i. is_read i"), ["λ", "i", "is_read", "i"]);
     }
 
     #[test]
-    fn both_forms_of_use_lines_name_a_file() {
+    fn use_lines_name_a_file() {
         let of = |file: &str, names: &[&str]| {
             let names = names.iter().map(|name| name.to_string()).collect();
             Ok(Some(Use {
@@ -91,23 +96,24 @@ mod tests {
                 names,
             }))
         };
-        let own = read_use("ghost use Rattle·part·specs.specs.Parts.{Got, numberOf};");
+        let own = read_use("ghost use Rattle.part.specs.Parts.{Got, number_of};");
         assert_eq!(
             own,
-            of("crates/part/specs/Parts.antt", &["Got", "numberOf"])
+            of("crates/part/specs/Parts.antt", &["Got", "number_of"])
         );
-        let other = read_use("use Rattle·part.specs.wide.Parts.{Got}");
+        let other = read_use("use Rattle.part.specs.wide.Parts.{Got}");
         assert_eq!(other, of("crates/part/specs/wide/Parts.antt", &["Got"]));
     }
 
     #[test]
     fn the_kit_and_declared_types_have_no_file() {
         assert_eq!(read_use("use lib.Dec.{eqb}"), Ok(None));
+        assert_eq!(read_use("use Rattle.std.specs.Prelude.{◌≡◌}"), Ok(None));
         assert_eq!(
-            read_use("use Rattle·part.specs.declared.Part.{Part}"),
+            read_use("use Rattle.part.specs.declared.Part.{Part}"),
             Ok(None)
         );
-        assert!(read_use("use Rattle·part.specs.Parts").is_err());
-        assert!(read_use("use Rattle·part·proofs.proofs.Parts.{got}").is_err());
+        assert!(read_use("use Rattle.part.specs.Parts").is_err());
+        assert!(read_use("use Rattle.part.proofs.Parts.{got}").is_err());
     }
 }

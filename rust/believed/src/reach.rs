@@ -160,7 +160,7 @@ pub mod tests {
 
     fn promising(promise: &str) -> String {
         format!(
-            "ghost use Rattle·a·specs.specs.P.{{R, D, one, f, g}};\npub fn h()\n    ensures {{ {promise} }}\n{{}}\n"
+            "ghost use Rattle.a.specs.P.{{R, D, one, f, g}};\npub fn h()\n    ensures {{ {promise} }}\n{{}}\n"
         )
     }
 
@@ -201,9 +201,9 @@ pub mod tests {
 
     #[test]
     fn a_definition_is_reached_through_another_crate() {
-        let page = "use Rattle·a.specs.P.{g}\npub k : ℕ\nk = g\n";
+        let page = "use Rattle.a.specs.P.{g}\npub k : ℕ\nk = g\n";
         let code =
-            "ghost use Rattle·gighull·specs.specs.Q.{k};\npub fn h()\n    ensures { k }\n{}\n";
+            "ghost use Rattle.gighull.specs.Q.{k};\npub fn h()\n    ensures { k }\n{}\n";
         let sources = [
             ("a/specs/P.antt", PAGE),
             ("gighull/specs/Q.antt", page),
@@ -237,9 +237,9 @@ pub mod tests {
             "crates/a/specs/P.antt has no definition of R"
         ));
         assert!(named(
-            &[("a/specs/P.antt", "use Rattle·a.specs.Q.{lost}\n")],
+            &[("a/specs/P.antt", "use Rattle.a.specs.Q.{lost}\n")],
             "lost"
         ));
-        assert!(reached_in(&[("a/specs/P.antt", "use Rattle·a.specs.declared.Q.{Q}\n")]).is_ok());
+        assert!(reached_in(&[("a/specs/P.antt", "use Rattle.a.specs.declared.Q.{Q}\n")]).is_ok());
     }
 }

@@ -98,7 +98,7 @@ mod tests {
     use crate::reach::tests::reached_in;
 
     const CODE: &str =
-        "ghost use Rattle·gighull·specs.specs.P.{f};\npub fn h()\n    ensures { f }\n{}\n";
+        "ghost use Rattle.gighull.specs.P.{f};\npub fn h()\n    ensures { f }\n{}\n";
     const PUBLIC: &str = "pub f : ℕ\nf = 0\n";
     const PRIVATE: &str = "pub g : ℕ\ng zero = 0\ng (suc n) =\n    1\n";
 
