@@ -3,7 +3,7 @@ use mathlib.Core.Path.{sym, ◌∙◌}
 use lib.ListN.{length}
 use Rattle.element.proofs.Tests.{said_no, said_yes}
 use Rattle.narrowing.specs.Calls.{narrow_file}
-use Rattle.narrow.proofs.Accepted.{refused, by_size, narrow-accepted}
+use Rattle.narrow.proofs.Accepted.{refused, by_size}
 use Rattle.narrow.proofs.narrow.Goals as goal
 
 pub returns-then-not-rest_ready-clause-value : goal.returns-then-not-rest_ready-clause-value
