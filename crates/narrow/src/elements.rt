@@ -88,7 +88,7 @@ pub(crate) fn narrow_chunks(
     let from = 256 * zn;
     let last = from + m;
     let mut s = [0u8; 256];
-    bytes::copy(&z[from..last], &mut s);
+    s[..m].copy_from_slice(&z[from..last]);
     let to = 256 * zd;
     let end = to + m;
     narrow_parts(&s[..m], &mut z[to..end], n, per, w, op, u, r, t, shift, a);

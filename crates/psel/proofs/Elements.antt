@@ -2,7 +2,7 @@
 use mathlib.Core.Path.{◌≡◌, refl, sym, ◌∙◌}
 use mathlib.Core.Bool.{Bool, true, false}
 use mathlib.Core.List.{List}
-use Prim.Native.Nat.{ℕ, zero, suc, ◌+◌, ◌-◌, ◌*◌, ◌/◌, ◌%◌, ◌^◌, ◌≤◌, ◌<◌}
+use Prim.Native.Nat.{ℕ, zero, suc, ◌+◌, ◌*◌, ◌/◌, ◌%◌, ◌^◌, ◌≤◌, ◌<◌}
 use native.Mathlib.Nat.{mod-eq_of_lt}
 use native.Mathlib.Omega.{arith}
 use lib.Bits.{bit_and, and_zero_r, and_mask}
@@ -43,15 +43,15 @@ module _ (vl z : ℕ) (small : z < 4) (allowed : length_allowed vl ≡ true) whe
 -- of a slot the low bytes are the slot's own
 pub slot_low : (size n m k : ℕ) (f : List ℕ) → n ≤ m → size * k + m ≤ length f → take n (slot size m k f) ≡ slot size n k f
 slot_low size n m k f l h =
-    rw (← slot_part size m k f h, ← slot_part size n k f (omega arith), reach, reach) (take-take n m (drop (size * k) f) l)
+    rw (← slot_part size m k f h, ← slot_part size n k f (omega arith), reach (size * k) m, reach (size * k) n) (take-take n m (drop (size * k) f) l)
 
 pub psel_length : (vl size sum : ℕ) (pn pm : List ℕ) → length pn ≡ vl / 64 → length (psel_of vl size sum pn pm) ≡ vl / 64
 unfolding psel_of
-psel_length vl size sum pn pm l = pick-length (value_of vl size sum pm)
+psel_length vl size sum pn pm l = pick_length (value_of vl size sum pm)
   where
-    pick-length : (v : Bool) → length (pick v pn (packed (λ b. false) (vl / 64))) ≡ vl / 64
-    pick-length true = l
-    pick-length false = packed_length (λ b. false) (vl / 64)
+    pick_length : (v : Bool) → length (pick v pn (packed (λ b. false) (vl / 64))) ≡ vl / 64
+    pick_length true = l
+    pick_length false = packed_length (λ b. false) (vl / 64)
 
 -- the first n bytes, one by one
 taken : (s : List ℕ) → ((k : ℕ) → get_or s k 0 < 256) → (n : ℕ) → n ≤ length s → fill (λ k. get_or s k 0) 1 n ≡ take n s

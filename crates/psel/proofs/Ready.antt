@@ -40,20 +40,24 @@ psel_ready_lem bytes vl log offset pn pm pd h =
       to = ltb-true pd 16 f.1;
     }
 
+-- what the work asks, by any name of the length
+pub ready : (bytes vl name log offset pn pm pd : ℕ) → vl ≡ name → psel_ready bytes vl (size_at log) offset pn pm pd ≡ true → SelectReady bytes name log pn pm pd
+ready bytes vl name log offset pn pm pd e h = rw (sym e) (psel_ready_lem bytes vl log offset pn pm pd h)
+
 -- the work is what the definition leaves, by any name of the length
 pub worked : (vl name size w offset pn pm pd : ℕ) (f q : List ℕ)
     → vl ≡ name
     → psel_ready (length f) vl size offset pn pm pd ≡ true
     → q ≡ set_slot 32 (name / 64) pd (psel_of name size (w + offset) (slot 32 (name / 64) pn f) (slot 32 (name / 64) pm f)) f
-    → (true ≡ psel_ready (length f) vl size offset pn pm pd) × (q ≡ psel_leaves vl size w offset pn pm pd f)
+    → q ≡ psel_leaves vl size w offset pn pm pd f
 unfolding psel_leaves
-worked vl name size w offset pn pm pd f q e ready h = (sym ready, h ∙ rw (ready, e))
+worked vl name size w offset pn pm pd f q e ready h = h ∙ rw (ready, e)
 
 pub untouched : (vl size w offset pn pm pd : ℕ) (f : List ℕ)
     → psel_ready (length f) vl size offset pn pm pd ≡ false
-    → (false ≡ psel_ready (length f) vl size offset pn pm pd) × (f ≡ psel_leaves vl size w offset pn pm pd f)
+    → f ≡ psel_leaves vl size w offset pn pm pd f
 unfolding psel_leaves
-untouched vl size w offset pn pm pd f refused = (sym refused, rw refused)
+untouched vl size w offset pn pm pd f refused = rw refused
 
 -- the lengths that are left when three have been tested: one below 1024, and one that is not
 pub is_256 : (vl : ℕ) → length_allowed vl ≡ true → (vl ≡ 128 → ⊥) → (vl ≡ 512 → ⊥) → vl < 1024 → vl ≡ 256

@@ -32,7 +32,7 @@ fn select(p: &mut [u8], vl: u32, log: u32, w: u32, offset: u32, pn: u32, pm: u32
     let a = 32 * (pn as usize);
     let b = a + 32;
     let mut s = [0u8; 32];
-    bytes::copy(&p[a..b], &mut s);
+    s.copy_from_slice(&p[a..b]);
     let d = 32 * (pd as usize);
     let e = d + n;
     selection::copied_if(v, &s[..n], &mut p[d..e]);

@@ -1,9 +1,8 @@
 -- What no word changes: the flags and the files' lengths. What a word is refused for hangs on these alone, so words that do not conflict are independent.
 use mathlib.Core.Path.{◌≡◌, refl, sym, ◌∙◌, ap}
-use mathlib.Core.Bool.{Bool, true, ◌&&◌}
+use mathlib.Core.Bool.{Bool, true}
 use mathlib.Core.List.{List, []}
 use Prim.Native.Nat.{ℕ, ◌≤◌}
-use lib.Dec.{eqb}
 use lib.ListN.{length, get_or}
 use Rattle.setting.specs.Allowed.{length_allowed, features_allowed, allowed_of}
 use Rattle.setting.specs.declared.Setting.{Setting}

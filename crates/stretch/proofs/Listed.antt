@@ -1,5 +1,5 @@
 -- An order as long as the stretch is a rearrangement exactly when it lists each position: n numbers need n entries, so there is no room for a second copy.
-use mathlib.Core.Path.{◌≡◌, refl, sym, ◌∙◌}
+use mathlib.Core.Path.{◌≡◌, refl, sym, ap, ◌∙◌}
 use mathlib.Core.Bool.{Bool, true, false}
 use mathlib.Core.List.{List, [], ◌∷◌}
 use Prim.Native.Nat.{ℕ, zero, suc, ◌≤◌, ◌<◌, zero-le}
@@ -27,7 +27,7 @@ counted_placed i [] h = absurd (not-suc-le-zero h)
 counted_placed i (j ∷ js) h = go (ℕ_discrete i j) (λ (k : 0 < count i js). counted_placed i js k)
   where
     go : Dec (i ≡ j) → (0 < count i js → place i js < length js) → place i (j ∷ js) < length (j ∷ js)
-    go (yes e) ih = rw (e, place_same j js) (omega arith)
+    go (yes e) ih = omega (arith, ap (λ (x : ℕ). place x (j ∷ js)) e ∙ place_same j js)
     go (no ne) ih = rw (place_other i j js ne) (omega (arith, ih (omega (arith, count_other i j js ne))))
 
 placed_counted : (i : ℕ) (js : List ℕ) → place i js < length js → 0 < count i js
@@ -36,7 +36,7 @@ placed_counted i [] h = absurd (not-suc-le-zero h)
 placed_counted i (j ∷ js) h = go (ℕ_discrete i j) (λ (k : place i js < length js). placed_counted i js k)
   where
     go : Dec (i ≡ j) → (place i js < length js → 0 < count i js) → 0 < count i (j ∷ js)
-    go (yes e) ih = rw (e, count_same j js) (omega arith)
+    go (yes e) ih = omega (arith, ap (λ (x : ℕ). count x (j ∷ js)) e ∙ count_same j js)
     go (no ne) ih = rw (count_other i j js ne) (ih (omega (arith, place_other i j js ne)))
 
 -- ---- room

@@ -13,7 +13,7 @@ use Rattle.setting.specs.declared.Setting.{Setting}
 use Rattle.element.proofs.Tests.{both_yes}
 use Rattle.element.proofs.Below.{each_holds, all_true}
 use Rattle.order.proofs.Tested.{rearranges_sound, rearranges_whole, permits_sound, permits_whole}
-use Rattle.stretch.specs.Conflict.{conflict, is_read_lem}
+use Rattle.stretch.specs.Conflict.{conflict, is_read}
 use Rattle.stretch.specs.Permission.{all_read, unanswered, permitted_by, unless, permitted_of, Permission}
 use Rattle.stretch.specs.Claims.{PermittedExactly}
 use Rattle.stretch.proofs.Passed.{passed}
@@ -44,7 +44,7 @@ module _ (s : Setting) (words order : List ℕ) where
   whole : Permission s words order → permitted_of s words order ≡ accept true
   unfolding permitted_of
   whole P =
-      rw (P.allowed, le-leb (length words) 256 P.short, all_true (λ i. is_read_lem s (get_or words i 0)) (length words) P.read, rearranges_whole (length words) order P.rearrangement)
+      rw (P.allowed, le-leb (length words) 256 P.short, all_true (λ i. is_read s (get_or words i 0)) (length words) P.read, rearranges_whole (length words) order P.rearrangement)
       (ap accept (permits_whole (conflict s) words order P.permitted))
 
 pub permitted_exactly : PermittedExactly

@@ -12,7 +12,7 @@ use Rattle.encoding.specs.declared.Decoded.{Decoded}
 use Rattle.encoding.specs.declared.Decoded.TheVariants.{Fields, Refused}
 use Rattle.machine.specs.Effects.{effect_of}
 use Rattle.machine.specs.Step.{over_word}
-use Rattle.stretch.specs.Conflict.{conflict, is_read_lem, if_read, conflict_of}
+use Rattle.stretch.specs.Conflict.{conflict, is_read, if_read, conflict_of}
 use Rattle.stretch.specs.Private.{touch_by, touch_in, touch_of, reading_of, reading_as, clashes}
 use Rattle.stretch.specs.declared.touch.Touch.{Touch}
 use Rattle.stretch.specs.declared.touch.Reading.{Reading}
@@ -50,10 +50,10 @@ module _ (s : Setting) (w : ℕ) {r : Reading} (e : reading_as r ≡ reading_of 
   pub touch_is : {t : Touch} → r ≡ Touches t → t ≡ touch_of s w
   touch_is {t} k = touch_in_lem (decode_of s w) t (touching k)
 
-  pub is_read_lem : {t : Touch} → r ≡ Touches t → is_read_lem s w ≡ true
+  pub is_read_lem : {t : Touch} → r ≡ Touches t → is_read s w ≡ true
   is_read_lem {t} k = one_read (decode_of s w) t (touching k)
 
-  pub is_unread : {a : Answer} → r ≡ Unread a → is_read_lem s w ≡ false
+  pub is_unread : {a : Answer} → r ≡ Unread a → is_read s w ≡ false
   is_unread {a} k = not_read (decode_of s w) (number_of a) (unread k)
 
 -- ---- two words
@@ -71,9 +71,9 @@ module _ (s : Setting) (v w : ℕ) {r : Reading} (e : reading_as r ≡ reading_o
   first_refused {a} k = if_refused (decode_of s v) (number_of a) _ (unread s v e k)
 
   module _ {t : Touch} (k : r ≡ Touches t) {q : Reading} (f : reading_as q ≡ reading_of s w) where
-    pub second-refused : {a : Answer} → q ≡ Unread a → refuse (number_of a) ≡ conflict_of s v w
+    pub second_refused : {a : Answer} → q ≡ Unread a → refuse (number_of a) ≡ conflict_of s v w
     unfolding conflict_of
-    second-refused {a} l = if_refused (decode_of s w) (number_of a) _ (unread s w f l) ∙ if_touches (decode_of s v) t _ (touching s v e k)
+    second_refused {a} l = if_refused (decode_of s w) (number_of a) _ (unread s w f l) ∙ if_touches (decode_of s v) t _ (touching s v e k)
 
     pub both_read : {u : Touch} {b : Bool} → q ≡ Touches u → b ≡ clashes t u → accept b ≡ conflict_of s v w
     unfolding conflict_of
