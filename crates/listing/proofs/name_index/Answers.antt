@@ -3,4 +3,4 @@ use Rattle.listing.proofs.Names.{name_is}
 use Rattle.listing.proofs.name_index.Goals as goal
 
 pub returns : goal.returns
-returns c = let w = c.args.word in rw (c.where_so.ensures, c.where_so-2.ensures, c.form_place.ensures) (name_is w)
+returns c = let w = c.args.word in rw (c.where_so.ensures, c.where_so-2.ensures, c.form-place.ensures) (name_is w)
