@@ -38,13 +38,13 @@ module _ (s : Setting) (w : ℕ) where
   decode_not_allowed a = simp a
 
   module _ (a : allowed_of s ≡ true) (k : ℕ) (e : k ≡ place_first rows s.features w) where
-    pub decode-row : read_at rows k w ≡ decode_of s w
+    pub decode_row : read_at rows k w ≡ decode_of s w
     unfolding decode_of
-    decode-row = simp a (ap (λ (j : ℕ). read_at rows j w) e ∙ sym (first_is_read rows s.features w))
+    decode_row = simp a (ap (λ (j : ℕ). read_at rows j w) e ∙ sym (first_is_read rows s.features w))
 
-    pub form-place : k ≡ place_in (decode_of s w)
+    pub form_place : k ≡ place_in (decode_of s w)
     unfolding decode_of
-    form-place = simp a (e ∙ place_of_first s.features w)
+    form_place = simp a (e ∙ place_of_first s.features w)
 
 -- two fields that are not both 0 are no 0 one behind the other
 pub not_both_zero : (n a b : ℕ) → (not (eqb a 0) || not (eqb b 0)) ≡ not (eqb (a * suc n + b) 0)

@@ -19,18 +19,18 @@ module _ (s : Setting) (i : Instruction) where
   encode_not_allowed a = simp a
 
   module _ (a : allowed_of s ≡ true) where
-    pub encode-out-of-range : in_range i ≡ false → unwritten 9 ≡ encode_of s i
+    pub encode_out_of_range : in_range i ≡ false → unwritten 9 ≡ encode_of s i
     unfolding encode_of
-    encode-out-of-range g = simp (a, g)
+    encode_out_of_range g = simp (a, g)
 
     module _ (g : in_range i ≡ true) where
-      pub encode-undefined : has_any s.features (row_of i).features ≡ false → unwritten 3 ≡ encode_of s i
+      pub encode_undefined : has_any s.features (row_of i).features ≡ false → unwritten 3 ≡ encode_of s i
       unfolding encode_of
-      encode-undefined h = simp (a, g, h)
+      encode_undefined h = simp (a, g, h)
 
-      pub encode-word : has_any s.features (row_of i).features ≡ true → {w : ℕ} → w ≡ word_of (row_of i).layout (raw_of i) → written w ≡ encode_of s i
+      pub encode_word : has_any s.features (row_of i).features ≡ true → {w : ℕ} → w ≡ word_of (row_of i).layout (raw_of i) → written w ≡ encode_of s i
       unfolding encode_of
-      encode-word h e = simp (a, g, h) (ap written e)
+      encode_word h e = simp (a, g, h) (ap written e)
 
 -- the features at the instruction's place are its row's
 pub its_features : (i : Instruction) (f : ℕ) {k : ℕ} {b : Bool} → k ≡ place_of i → b ≡ has_any f (features_at k) → b ≡ has_any f (row_of i).features

@@ -20,13 +20,13 @@ module _ (vl size offset w : ℕ) where
   no_length h = rw h
 
   module _ (allowed : length_allowed vl ≡ true) where
-    pub no-offset : is_offset size offset ≡ false → indexed 9 no_unit ≡ indexed_of vl size offset w
+    pub no_offset : is_offset size offset ≡ false → indexed 9 no_unit ≡ indexed_of vl size offset w
     unfolding indexed_of
-    no-offset h = rw (allowed, h)
+    no_offset h = rw (allowed, h)
 
-    pub the-unit : (z : ℕ) (u : IndexUnit) → is_offset size offset ≡ true → z ≡ log_of size → u ≡ pick (has_unit vl (size_at z)) (unit_of vl (size_at z) w offset) no_unit → indexed 0 u ≡ indexed_of vl size offset w
+    pub the_unit : (z : ℕ) (u : IndexUnit) → is_offset size offset ≡ true → z ≡ log_of size → u ≡ pick (has_unit vl (size_at z)) (unit_of vl (size_at z) w offset) no_unit → indexed 0 u ≡ indexed_of vl size offset w
     unfolding indexed_of
-    the-unit z u h e f =
+    the_unit z u h e f =
         let sized = (both_yes (is_size size) (ltb offset _) h).0 in
         let l = log_is size (size_is size sized) in
         rw (allowed, h) (ap (indexed 0) (f ∙ rw (size_back (log_of size) l.small l.is e, allowed, sized)))

@@ -37,7 +37,7 @@ fn advance(scalars: Scalars) -> Scalars
     ensures { result ≡ advanced scalars }
 {
     let mut next = scalars;
-    next.pc = std::num::wrapping_add_u64(scalars.pc, 4);
+    next.pc = scalars.pc.wrapping_add(4);
     next
 }
 
@@ -50,7 +50,7 @@ fn moved_on(scalars: Scalars, done: u32) -> Scalars
         return scalars;
     }
     let mut next = scalars;
-    next.pc = std::num::wrapping_add_u64(scalars.pc, 4 * (done as u64));
+    next.pc = scalars.pc.wrapping_add(4 * (done as u64));
     next
 }
 

@@ -1,5 +1,5 @@
 -- Document 01, "The lister": what of the input is listed into a buffer, and what the buffer then holds.
-use Rattle.std.specs.Prelude.{ℕ, ◌+◌, ◌-◌, ◌*◌, ◌/◌, ◌%◌, min, ◌≡◌, List, ◌++◌, length, take, drop}
+use Rattle.std.specs.Prelude.{ℕ, ◌-◌, ◌*◌, ◌/◌, ◌%◌, min, ◌≡◌, List, ◌++◌, length, take, drop}
 use Rattle.listing.specs.declared.Listed.{Listed}
 use Rattle.text.specs.Lines.{lines_of}
 

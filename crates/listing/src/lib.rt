@@ -84,7 +84,9 @@ fn put(text: &[u8], out: &mut [u8]) -> usize
     requires { length text.now ≤ length out.old }
     ensures { Wrote text.now out.old out.new result }
 {
-    bytes::copy(text, out)
+    let n = text.len();
+    out[..n].copy_from_slice(text);
+    n
 }
 
 // The line of the bytes left over.

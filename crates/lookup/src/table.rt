@@ -97,7 +97,7 @@ fn slot_of(z: &[u8], k: usize) -> [u8; 256]
     let a = 256 * k;
     let b = a + 256;
     let mut s = [0u8; 256];
-    bytes::copy(&z[a..b], &mut s);
+    s.copy_from_slice(&z[a..b]);
     s
 }
 

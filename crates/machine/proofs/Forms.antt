@@ -27,7 +27,7 @@ use Rattle.machine.specs.Effects.{effect_of}
 use Rattle.machine.specs.Step.{Step, step_of, step_as}
 use Rattle.machine.specs.Private.{Ready, Known, PredicateWord, VectorWord, TablelessWord, HasV, HasVS, HasST, HasWV, done_of, executed_of, moved_by}
 use Rattle.machine.specs.declared.Scalars.{Scalars}
-use Rattle.machine.proofs.Steps.{refused_for, done_for, step-executes, step-ready, step-undefined}
+use Rattle.machine.proofs.Steps.{refused_for, done_for, step_executes, step_ready, step_undefined}
 use Rattle.machine.proofs.Operations.{pext_done, psel_done, luti4c_done, luti4s_done, narrow_done}
 
 -- ---- what a known row reads is what the word is read as
@@ -35,7 +35,7 @@ first_at : (s : Setting) (w k : ℕ) (o : Outcome Instruction) → k ≡ place_f
 first_at s w k o e r = first_is_read rows s.features w ∙ ap (λ (j : ℕ). read_at rows j w) (sym e) ∙ r
 
 pub no_row : (s : Setting) (w k : ℕ) (m : Machine) → Known k s w m → length rows ≤ k → ◌≡◌ {A = Step} (record { number = 3; left = m }) (step_of s w m)
-no_row s w k m h l = step-undefined s w m h.checked.allowed h.checked.files (first_at s w k (refuse 3) h.place (read_past rows k w l))
+no_row s w k m h l = step_undefined s w m h.checked.allowed h.checked.files (first_at s w k (refuse 3) h.place (read_past rows k w l))
 
 -- ---- on one file or the other, done or refused
 module _ (s : Setting) (w k : ℕ) (i : Instruction) (read : read_at rows k w ≡ accept i) (z p zt : List ℕ) (c : Scalars) (known : Known k s w (machine z p zt c)) where
@@ -43,10 +43,10 @@ module _ (s : Setting) (w k : ℕ) (i : Instruction) (read : read_at rows k w �
   is_first = first_at s w k (accept i) known.place read
 
   pub ready : Ready (length z) (length p) (length zt) s.vl i
-  ready = step-ready s w (machine z p zt c) known.checked.allowed known.checked.files i is_first
+  ready = step_ready s w (machine z p zt c) known.checked.allowed known.checked.files i is_first
 
   executes : executed_of s i (machine z p zt c) ≡ step_of s w (machine z p zt c)
-  executes = step-executes s w (machine z p zt c) known.checked.allowed known.checked.files i is_first
+  executes = step_executes s w (machine z p zt c) known.checked.allowed known.checked.files i is_first
 
   pub on_predicates : (p' done : List ℕ) (n : ℕ) → n ≡ first_failed ((effect_of i).needs s (flags_of (machine z p zt c))) → p' ≡ if_done n done p → machine z done zt c ≡ done_of s.vl i (machine z p zt c)
       → step_as n z p' zt (moved_by n c) ≡ step_of s w (machine z p zt c)
@@ -75,13 +75,13 @@ module _ (s : Setting) (w : ℕ) (r : Answer) (p p' : List ℕ) where
 
 module _ (s : Setting) (w : ℕ) (r : Answer) (z z' : List ℕ) where
   module _ (zt : List ℕ) (f t : Bool) (size i1 zn zd : ℕ) (answer : number_of r ≡ pick f (pick t 0 6) 5) where
-    pub luti4c-word : read_at rows 3 w ≡ accept (Luti4c size i1 zn zd) → z' ≡ if_done (number_of r) (luti4_file s.vl size i1 zn zd 1 zt z) z → VectorWord 3 s w (HasST f t) r zt z z'
-    luti4c-word e q p c has known =
+    pub luti4c_word : read_at rows 3 w ≡ accept (Luti4c size i1 zn zd) → z' ≡ if_done (number_of r) (luti4_file s.vl size i1 zn zd 1 zt z) z → VectorWord 3 s w (HasST f t) r zt z z'
+    luti4c_word e q p c has known =
         on_vectors s w 3 _ e z p zt c known z' _ (number_of r) (rw (has.0, has.1) answer) q
         (luti4c_done z _ p zt c s.vl size i1 zn zd (ready s w 3 _ e z p zt c known) refl)
 
-    pub luti4s-word : read_at rows 4 w ≡ accept (Luti4s size i1 zn zd) → z' ≡ if_done (number_of r) (luti4_file s.vl size i1 zn zd 4 zt z) z → VectorWord 4 s w (HasST f t) r zt z z'
-    luti4s-word e q p c has known =
+    pub luti4s_word : read_at rows 4 w ≡ accept (Luti4s size i1 zn zd) → z' ≡ if_done (number_of r) (luti4_file s.vl size i1 zn zd 4 zt z) z → VectorWord 4 s w (HasST f t) r zt z z'
+    luti4s_word e q p c has known =
         on_vectors s w 4 _ e z p zt c known z' _ (number_of r) (rw (has.0, has.1) answer) q
         (luti4s_done z _ p zt c s.vl size i1 zn zd (ready s w 4 _ e z p zt c known) refl)
 

@@ -43,10 +43,10 @@ unfolding psel_ready
 psel_ready_lem size offset index pn pm pd vl e a =
     let g = psel_ranges size offset index pn pm pd e in
     let h = both_yes (is_size size) (ltb offset (128 / size)) (both_yes (is_size size && ltb offset (128 / size)) (leb 12 index && ltb index 16) (both_yes (is_size size && ltb offset (128 / size) && (leb 12 index && ltb index 16)) (ltb pn 16 && ltb pm 16 && ltb pd 16) e).0).0 in
-    rw (a, h.0, lt-ltb offset 16 (offset-lt size offset h.0 (ltb-true offset (128 / size) h.1)), lt-ltb pn 16 g.pn_lt, lt-ltb pm 16 g.pm_lt, lt-ltb pd 16 g.pd_lt)
+    rw (a, h.0, lt-ltb offset 16 (offset_lt size offset h.0 (ltb-true offset (128 / size) h.1)), lt-ltb pn 16 g.pn_lt, lt-ltb pm 16 g.pm_lt, lt-ltb pd 16 g.pd_lt)
   where
-    offset-lt : (n o : ℕ) → is_size n ≡ true → o < 128 / n → o < 16
-    offset-lt n o h l = size_cases (λ n. (k : ℕ) → k < 128 / n → k < 16) (λ k l. l) (λ k l. omega arith) (λ k l. omega arith) (λ k l. omega arith) n h o l
+    offset_lt : (n o : ℕ) → is_size n ≡ true → o < 128 / n → o < 16
+    offset_lt n o h l = size_cases (λ n. (k : ℕ) → k < 128 / n → k < 16) (λ k l. l) (λ k l. omega arith) (λ k l. omega arith) (λ k l. omega arith) n h o l
 
 narrow_ready_lem : (size shift zn zd vl : ℕ) → narrow_in_range size shift zn zd ≡ true → length_allowed vl ≡ true → narrow_ready vector_file vl size shift zn zd ≡ true
 unfolding narrow_ready

@@ -62,28 +62,28 @@ module _ (s : Setting) (w : ℕ) (m : Machine) where
     read_is o e = rw a e
 
     module _ (h : sized m ≡ true) where
-      pub step-undefined : first_of rows s.features w ≡ refuse 3 → ◌≡◌ {A = Step} (record { number = 3; left = m }) (step_of s w m)
+      pub step_undefined : first_of rows s.features w ≡ refuse 3 → ◌≡◌ {A = Step} (record { number = 3; left = m }) (step_of s w m)
       unfolding step_of refusal_of
-      step-undefined e = rw (a, h, read_is (refuse 3) e)
+      step_undefined e = rw (a, h, read_is (refuse 3) e)
 
-      exec-is : (i : Instruction) → decode_of s w ≡ accept i → exec_of s w m ≡ next (done_of s.vl i m)
+      exec_is : (i : Instruction) → decode_of s w ≡ accept i → exec_of s w m ≡ next (done_of s.vl i m)
       unfolding exec_of perform done_of
-      exec-is i e = rw e
+      exec_is i e = rw e
 
       after_is : (i : Instruction) → decode_of s w ≡ accept i → (k : ℕ) → executed k s.vl i m ≡ after k s w m
-      after_is i e zero = ap (λ (x : Machine). record { number = 0; left = x }) (sym (exec-is i e))
+      after_is i e zero = ap (λ (x : Machine). record { number = 0; left = x }) (sym (exec_is i e))
       after_is i e (suc k) = refl
 
-      pub step-executes : (i : Instruction) → first_of rows s.features w ≡ accept i → executed_of s i m ≡ step_of s w m
+      pub step_executes : (i : Instruction) → first_of rows s.features w ≡ accept i → executed_of s i m ≡ step_of s w m
       unfolding step_of refusal_of executed_of
-      step-executes i e =
+      step_executes i e =
           let r : decode_of s w ≡ accept i = read_is (accept i) e in
           let q : first_failed ((effect_of i).needs s (flags_of m)) ≡ refusal_of s w m = rw (a, h, r) in
           after_is i r (first_failed ((effect_of i).needs s (flags_of m))) ∙ ap (λ (n : ℕ). after n s w m) q
 
-      pub step-ready : (i : Instruction) → first_of rows s.features w ≡ accept i → Ready (length m.z) (length m.p) (length m.zt) s.vl i
+      pub step_ready : (i : Instruction) → first_of rows s.features w ≡ accept i → Ready (length m.z) (length m.p) (length m.zt) s.vl i
       unfolding allowed_of
-      step-ready i e =
+      step_ready i e =
           let b = both_yes (eqb (length m.z) vector_file && eqb (length m.p) predicate_file) (eqb (length m.zt) table_file) h in
           let c = both_yes (eqb (length m.z) vector_file) (eqb (length m.p) predicate_file) b.0 in
           record {

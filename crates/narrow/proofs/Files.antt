@@ -1,5 +1,5 @@
 -- The chunks of a register are its bytes, and their elements its elements: once over the width.
-use mathlib.Core.Path.{◌≡◌, refl, sym, ap, ◌∙◌}
+use mathlib.Core.Path.{◌≡◌, sym, ap, ◌∙◌}
 use mathlib.Core.Bool.{Bool, true}
 use mathlib.Core.List.{List}
 use Prim.Native.Nat.{ℕ, ◌*◌, ◌/◌, ◌%◌, ◌≤◌}
@@ -46,6 +46,6 @@ module _ {file vl s shift zn zd : ℕ} (ready : NarrowReady file vl s shift zn z
   pub chunks_are : is_result (4 * w) ≡ true
       → (op u r t : Bool) (z o : List ℕ)
       → o ≡ chunks_of (vl / 128 % 32) per w op u r t shift zn zd z
-      → (true ≡ is_result s) × (o ≡ pick (is_result s) (set_slot 256 (vl / 8) zd (narrow_of (form op u) r t s shift vl (slot 256 (vl / 8) zn z) (slot 256 (vl / 8) zd z)) z) z)
+      → o ≡ pick (is_result s) (set_slot 256 (vl / 8) zd (narrow_of (form op u) r t s shift vl (slot 256 (vl / 8) zn z) (slot 256 (vl / 8) zd z)) z) z
   unfolding narrow_of
-  chunks_are y op u r t z o h = let q : 4 * w / 4 ≡ w = omega arith in rw (size, y) (refl, rw (q, ← bytes_are, ← elements_are) h)
+  chunks_are y op u r t z o h = let q : 4 * w / 4 ≡ w = omega arith in rw (size, y, q, ← bytes_are, ← elements_are) h

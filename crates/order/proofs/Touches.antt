@@ -42,20 +42,20 @@ module _ {R : Type 0} (same : R → R → Bool) where
 
   -- ---- copies
   module _ (self : (r : R) → same r r ≡ true) where
-    holds-past : (r : R) (ss ts : List R) → holds same r (ss ++ r ∷ ts) ≡ true
+    holds_past : (r : R) (ss ts : List R) → holds same r (ss ++ r ∷ ts) ≡ true
     unfolding holds
-    holds-past r [] ts = rw self
-    holds-past r (s ∷ ss) ts = rw (holds-past r ss ts) (or-true (same r s))
+    holds_past r [] ts = rw self
+    holds_past r (s ∷ ss) ts = rw (holds_past r ss ts) (or-true (same r s))
 
     -- a list that is not empty meets what ends with that list
     meet_self : (rs ss : List R) → 0 < length rs → meet same rs (ss ++ rs) ≡ true
     unfolding meet
     meet_self [] ss h = absurd (omega arith)
-    meet_self (r ∷ rs) ss h = rw (holds-past r ss rs)
+    meet_self (r ∷ rs) ss h = rw (holds_past r ss rs)
 
-    pub copies-conflict : (reads writes : ℕ → List R) (w : ℕ) → 0 < length (writes w) → conflicting same reads writes w w ≡ true
+    pub copies_conflict : (reads writes : ℕ → List R) (w : ℕ) → 0 < length (writes w) → conflicting same reads writes w w ≡ true
     unfolding conflicting
-    copies-conflict reads writes w h = rw (meet_self (writes w) (reads w) h)
+    copies_conflict reads writes w h = rw (meet_self (writes w) (reads w) h)
 
 module _ {M R C F : Type 0} (same : R → R → Bool) (get : R → M → C) (put : R → C → M → M) (next : M → M) (flags : M → F) (L : SeparateRegisters same get put next flags) where
   -- ---- one write, and reads or writes of others
@@ -110,25 +110,25 @@ module _ {M R C F : Type 0} (same : R → R → Bool) (get : R → M → C) (put
   module _ (reads writes : ℕ → List R) (refusal : ℕ → M → ℕ) (effect : ℕ → M → List C)
       (by_flags : (w : ℕ) (m m' : M) → flags m ≡ flags m' → refusal w m ≡ refusal w m')
       (by-reads : (w : ℕ) (m m' : M) → flags m ≡ flags m' → gets get (reads w) m ≡ gets get (reads w) m' → effect w m ≡ effect w m') where
-    flags-kept : (w : ℕ) (m : M) → flags (perform put next writes effect w m) ≡ flags m
+    flags_kept : (w : ℕ) (m : M) → flags (perform put next writes effect w m) ≡ flags m
     unfolding perform
-    flags-kept w m = L.flags_next _ ∙ flags_puts (writes w) (effect w m) m
+    flags_kept w m = L.flags_next _ ∙ flags_puts (writes w) (effect w m) m
 
-    both-done : (v w : ℕ) (m : M) → meet same (writes v) (reads w ++ writes w) ≡ false
+    both_done : (v w : ℕ) (m : M) → meet same (writes v) (reads w ++ writes w) ≡ false
         → perform put next writes effect w (perform put next writes effect v m) ≡ next (next (puts put (writes w) (effect w m) (puts put (writes v) (effect v m) m)))
     unfolding perform
-    both-done v w m h =
+    both_done v w m h =
         let x : M = puts put (writes v) (effect v m) m in
         let r : gets get (reads w) (next x) ≡ gets get (reads w) m = gets_next (reads w) x ∙ gets_puts (writes v) (effect v m) (reads w) m (meet_left same (writes v) (reads w) (writes w) h) in
-        rw (by-reads w (next x) m (flags-kept v m) r) (ap next (puts_next (writes w) (effect w m) x))
+        rw (by-reads w (next x) m (flags_kept v m) r) (ap next (puts_next (writes w) (effect w m) x))
 
     pub independent : Independent refusal (perform put next writes effect) (conflicting same reads writes)
     unfolding conflicting
     independent = record {
-      kept = λ v w m h. by_flags w _ m (flags-kept v m);
-      kept_back = λ v w m h. by_flags v _ m (flags-kept w m);
+      kept = λ v w m h. by_flags w _ m (flags_kept v m);
+      kept_back = λ v w m h. by_flags v _ m (flags_kept w m);
       swap = λ v w m h.
-          both-done v w m (or_left (meet same (writes v) (reads w ++ writes w)) _ h)
+          both_done v w m (or_left (meet same (writes v) (reads w ++ writes w)) _ h)
           ∙ ap (λ (x : M). next (next x)) (puts_puts (writes w) _ (writes v) _ m (meet_right same (writes w) (reads v) (writes v) (or_right (meet same (writes v) (reads w ++ writes w)) _ h)))
-          ∙ sym (both-done w v m (or_right (meet same (writes v) (reads w ++ writes w)) _ h));
+          ∙ sym (both_done w v m (or_right (meet same (writes v) (reads w ++ writes w)) _ h));
     }

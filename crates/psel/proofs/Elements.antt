@@ -47,11 +47,11 @@ slot_low size n m k f l h =
 
 pub psel_length : (vl size sum : ℕ) (pn pm : List ℕ) → length pn ≡ vl / 64 → length (psel_of vl size sum pn pm) ≡ vl / 64
 unfolding psel_of
-psel_length vl size sum pn pm l = pick-length (value_of vl size sum pm)
+psel_length vl size sum pn pm l = pick_length (value_of vl size sum pm)
   where
-    pick-length : (v : Bool) → length (pick v pn (packed (λ b. false) (vl / 64))) ≡ vl / 64
-    pick-length true = l
-    pick-length false = packed_length (λ b. false) (vl / 64)
+    pick_length : (v : Bool) → length (pick v pn (packed (λ b. false) (vl / 64))) ≡ vl / 64
+    pick_length true = l
+    pick_length false = packed_length (λ b. false) (vl / 64)
 
 -- the first n bytes, one by one
 taken : (s : List ℕ) → ((k : ℕ) → get_or s k 0 < 256) → (n : ℕ) → n ≤ length s → fill (λ k. get_or s k 0) 1 n ≡ take n s

@@ -11,7 +11,7 @@ use Rattle.encoding.specs.Decode.{decode_of}
 use Rattle.encoding.specs.declared.Instruction.{Instruction}
 use Rattle.encoding.proofs.Round.{read_in_range}
 use Rattle.order.specs.Banks.{Register, same_register}
-use Rattle.order.proofs.Touches.{copies-conflict}
+use Rattle.order.proofs.Touches.{copies_conflict}
 use Rattle.machine.specs.Effects.{effect_of}
 use Rattle.machine.specs.Step.{over_word}
 use Rattle.machine.proofs.Effects.{fine}
@@ -26,7 +26,7 @@ unfolding conflict_of
 copies s w h = go (decode_of s w) h
   where
     go : (d : Outcome Instruction) → 0 < length (over_word [] (λ i. (effect_of i).writes) d) → if_read d (if_read d (accept (conflict s w w))) ≡ accept true
-    go (accept i) k = ap accept (copies-conflict same_register self _ _ w h)
+    go (accept i) k = ap accept (copies_conflict same_register self _ _ w h)
     go (refuse n) k = absurd (omega arith)
 
 pub each_writes : EachWrites

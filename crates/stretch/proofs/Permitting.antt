@@ -63,20 +63,20 @@ module _ (s : Setting) (words order : List ℕ) where
   permission_not_allowed a = rw a
 
   module _ (a : allowed_of s ≡ true) where
-    pub permission-too-many : 256 < length words → refuse 8 ≡ permitted_of s words order
+    pub permission_too_many : 256 < length words → refuse 8 ≡ permitted_of s words order
     unfolding permitted_of
-    permission-too-many h = rw (a, lt-leb (length words) 256 h)
+    permission_too_many h = rw (a, lt-leb (length words) 256 h)
 
     module _ (few : length words ≤ 256) where
-      pub permission-unread : all_read s words ≡ false → refuse 3 ≡ permitted_of s words order
+      pub permission_unread : all_read s words ≡ false → refuse 3 ≡ permitted_of s words order
       unfolding permitted_of
-      permission-unread h = rw (a, le-leb (length words) 256 few, h)
+      permission_unread h = rw (a, le-leb (length words) 256 few, h)
 
       module _ (r : all_read s words ≡ true) where
-        pub permission-is : {b : Bool} → b ≡ permitted_by s words order → accept b ≡ permitted_of s words order
+        pub permission_is : {b : Bool} → b ≡ permitted_by s words order → accept b ≡ permitted_of s words order
         unfolding permitted_of
-        permission-is e = rw (a, le-leb (length words) 256 few, r) (ap accept e)
+        permission_is e = rw (a, le-leb (length words) 256 few, r) (ap accept e)
 
-        pub permission-other-length : (length order ≡ length words → ⊥) → accept false ≡ permitted_of s words order
+        pub permission_other_length : (length order ≡ length words → ⊥) → accept false ≡ permitted_of s words order
         unfolding rearranges
-        permission-other-length ne = permission-is (rw (ne_eqb (length order) (length words) ne))
+        permission_other_length ne = permission_is (rw (ne_eqb (length order) (length words) ne))

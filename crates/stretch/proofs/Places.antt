@@ -23,11 +23,11 @@ module _ (order : List ℕ) where
     other : (i : ℕ) → i < 256 → (i ≡ get_or order k 0 → ⊥) → get_or table i 0 ≡ k + place i (drop k order)
     other i l ne = p i l ∙ rw (e, drop-cons order k 0 h, place_other i (get_or order k 0) (drop (suc k) order) ne) (omega arith)
 
-    pub places-passed : 256 ≤ get_or order k 0 → PlacesFrom k order table
-    places-passed g i l = other i l (λ q. omega arith)
+    pub places_passed : 256 ≤ get_or order k 0 → PlacesFrom k order table
+    places_passed g i l = other i l (λ q. omega arith)
 
-    pub places-stored : length table ≡ 256 → get_or order k 0 < 256 → PlacesFrom k order (set table (get_or order k 0) k)
-    places-stored m g i l = go (ℕ_discrete i (get_or order k 0))
+    pub places_stored : length table ≡ 256 → get_or order k 0 < 256 → PlacesFrom k order (set table (get_or order k 0) k)
+    places_stored m g i l = go (ℕ_discrete i (get_or order k 0))
       where
         go : Dec (i ≡ get_or order k 0) → get_or (set table (get_or order k 0) k) i 0 ≡ k + place i (drop k order)
         go (yes q) =

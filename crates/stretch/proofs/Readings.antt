@@ -71,9 +71,9 @@ module _ (s : Setting) (v w : ℕ) {r : Reading} (e : reading_as r ≡ reading_o
   first_refused {a} k = if_refused (decode_of s v) (number_of a) _ (unread s v e k)
 
   module _ {t : Touch} (k : r ≡ Touches t) {q : Reading} (f : reading_as q ≡ reading_of s w) where
-    pub second-refused : {a : Answer} → q ≡ Unread a → refuse (number_of a) ≡ conflict_of s v w
+    pub second_refused : {a : Answer} → q ≡ Unread a → refuse (number_of a) ≡ conflict_of s v w
     unfolding conflict_of
-    second-refused {a} l = if_refused (decode_of s w) (number_of a) _ (unread s w f l) ∙ if_touches (decode_of s v) t _ (touching s v e k)
+    second_refused {a} l = if_refused (decode_of s w) (number_of a) _ (unread s w f l) ∙ if_touches (decode_of s v) t _ (touching s v e k)
 
     pub both_read : {u : Touch} {b : Bool} → q ≡ Touches u → b ≡ clashes t u → accept b ≡ conflict_of s v w
     unfolding conflict_of

@@ -32,11 +32,11 @@ module _ (writes touched place : List ℕ) (n j : ℕ) where
   position_unlisted h = rw (le-ltb (get_or place j 0) n h)
 
   module _ {b : Bool} (e : b ≡ all (λ i. keeps_at writes touched place i j) j) where
-    pub position-fails : b ≡ false → stands_at writes touched place n j ≡ false
-    position-fails h = rw (said_no e h) (and-false (ltb (get_or place j 0) n))
+    pub position_fails : b ≡ false → stands_at writes touched place n j ≡ false
+    position_fails h = rw (said_no e h) (and-false (ltb (get_or place j 0) n))
 
-    pub position-holds : get_or place j 0 < n → b ≡ true → stands_at writes touched place n j ≡ true
-    position-holds l h = rw (lt-ltb (get_or place j 0) n l) (said_yes e h)
+    pub position_holds : get_or place j 0 < n → b ≡ true → stands_at writes touched place n j ≡ true
+    position_holds l h = rw (lt-ltb (get_or place j 0) n l) (said_yes e h)
 
 -- ---- a touch stored
 module _ (writes touched : List ℕ) (i : ℕ) (t : Touch) where

@@ -7,6 +7,5 @@ use Rattle.counter.proofs.at_places.Goals as goal
 
 pub returns : goal.returns
 returns c =
-    let s = c in
-    let m = s.args.m in
-    ap (bit_and m.0) (c.places.ensures ∙ ap every_place c.maximum.ensures) ∙ both_sizes m.0 m.1 s.args.s s.requires.0 s.requires.1
+    let m = c.args.m in
+    ap (bit_and m.0) (c.places.ensures ∙ ap every_place c.maximum.ensures) ∙ both_sizes m.0 m.1 c.args.s c.requires.0 c.requires.1

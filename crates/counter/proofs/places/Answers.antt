@@ -15,6 +15,5 @@ spread z = eqb (pattern_of z * 0x0101010101010101) (gather (λ b. eqb (b % 2 ^ z
 pub returns : goal.returns
 unfolding spread gather
 returns c =
-    let a = c in
-    let z = a.args.z in
-    ap (λ (n : ℕ). n * 0x0101010101010101) c.pattern_of.ensures ∙ eqb→eq (pattern_of z * 0x0101010101010101) (gather (λ b. eqb (b % 2 ^ z) 0) 0 64) (below spread 4 tt z a.requires)
+    let z = c.args.z in
+    ap (λ (n : ℕ). n * 0x0101010101010101) c.pattern_of.ensures ∙ eqb→eq (pattern_of z * 0x0101010101010101) (gather (λ b. eqb (b % 2 ^ z) 0) 0 64) (below spread 4 tt z c.requires)

@@ -1,11 +1,11 @@
 -- `decode` meets its contract: the row that is read is the first that matches.
 use mathlib.Core.Path.{◌∙◌}
 use Rattle.element.proofs.Tests.{said_no, said_yes}
-use Rattle.decoder.proofs.Cases.{decode_not_allowed, decode-row}
+use Rattle.decoder.proofs.Cases.{decode_not_allowed, decode_row}
 use Rattle.decoder.proofs.decode.Goals as goal
 
 pub returns-then-not-allowed : goal.returns-then-not-allowed
 returns-then-not-allowed c = decode_not_allowed _ _ (said_no c.allowed.ensures c.if-not-allowed.true)
 
 pub returns : goal.returns
-returns c = c.read.ensures ∙ decode-row _ _ (said_yes c.allowed.ensures c.if-not-allowed.false) _ c.place_of.ensures
+returns c = c.read.ensures ∙ decode_row _ _ (said_yes c.allowed.ensures c.if-not-allowed.false) _ c.place_of.ensures

@@ -2,11 +2,11 @@
 use mathlib.Core.Path.{ap}
 use Rattle.element.proofs.Tests.{said_no, said_yes}
 use Rattle.encoding.specs.Places.{place_in}
-use Rattle.decoder.proofs.Cases.{decode_not_allowed, form-place}
+use Rattle.decoder.proofs.Cases.{decode_not_allowed, form_place}
 use Rattle.decoder.proofs.form.Goals as goal
 
 pub returns-then-not-allowed : goal.returns-then-not-allowed
 returns-then-not-allowed c = ap place_in (decode_not_allowed _ _ (said_no c.allowed.ensures c.if-not-allowed.true))
 
 pub returns : goal.returns
-returns c = form-place _ _ (said_yes c.allowed.ensures c.if-not-allowed.false) _ c.place_of.ensures
+returns c = form_place _ _ (said_yes c.allowed.ensures c.if-not-allowed.false) _ c.place_of.ensures

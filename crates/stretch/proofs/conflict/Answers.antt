@@ -1,6 +1,6 @@
 -- `conflict` meets its contract: the first refusal, or whether the two touches clash.
 use mathlib.Core.Path.{◌∙◌}
-use Rattle.stretch.proofs.Readings.{first_refused, second-refused, both_read}
+use Rattle.stretch.proofs.Readings.{first_refused, second_refused, both_read}
 use Rattle.stretch.proofs.conflict.Goals as goal
 
 pub returns-in-Refused : goal.returns-in-Refused
@@ -11,7 +11,7 @@ returns-in-Refused c =
 pub returns-in-Refused-read : goal.returns-in-Refused-read
 returns-in-Refused-read c =
     let r = c in
-    second-refused r.args.setting r.args.first r.args.second r.read.ensures c.in-Touches.is c.read-in-Touches.ensures c.in-Refused-read.is
+    second_refused r.args.setting r.args.first r.args.second r.read.ensures c.in-Touches.is c.read-in-Touches.ensures c.in-Refused-read.is
 
 pub returns-in-Touches-read : goal.returns-in-Touches-read
 returns-in-Touches-read c =

@@ -6,7 +6,6 @@ use lib.ListN.{get_or}
 use Rattle.decoder.proofs.Search.{tested, turns_of_code, turn_lt, none_found, found}
 use Rattle.decoder.proofs.layouts.place_by_turns.Goals as goal
 
-
 pub returns-then-rest : goal.returns-then-rest
 returns-then-rest c =
     let h = c in

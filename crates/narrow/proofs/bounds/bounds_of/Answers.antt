@@ -3,8 +3,7 @@ use mathlib.Core.Path.{◌∙◌}
 use native.Mathlib.Omega.{arith}
 use mir.Syntax.{w64}
 use mir.ValLaws.{to_z-of_z, to_z_pos}
-use Rattle.narrow.proofs.Computed.{room, unsigned_prepared, signed_prepared, term_lt, most, top_is, signed-fits, above-fits, signed-are, term_fits, capped_fits, unsigned-are}
-use borrow.Author.Rules.{rules}
+use Rattle.narrow.proofs.Computed.{room, unsigned_prepared, signed_prepared, term_lt, most, top_is, above-fits, signed-are, term_fits, capped_fits, unsigned-are}
 use Rattle.narrow.proofs.bounds.bounds_of.Goals as goal
 
 pub overflow_sub-result-then-u : goal.overflow_sub-result-then-u

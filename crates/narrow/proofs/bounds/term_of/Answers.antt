@@ -1,6 +1,5 @@
 -- `term_of` meets its contract: a bit shifted, or 0.
 use Rattle.narrow.proofs.Computed.{term_shl}
-use borrow.Author.Rules.{rules}
 use Rattle.narrow.proofs.bounds.term_of.Goals as goal
 
 pub returns : goal.returns

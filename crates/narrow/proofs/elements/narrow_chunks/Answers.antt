@@ -18,5 +18,5 @@ returns c =
     let z = a.z.now in
     let e = c.copy_from_slice.ensures.after ∙ slot_part 256 m a.zn z (omega arith) in
     slot_made (element (form a.op a.u) a.r a.t (4 * a.w) a.shift) a.w (a.n * a.per) m a.zn a.zd z _ (omega arith) (mul_assoc a.n a.per a.w)
-        (take_at c.copy_from_slice.new.self _ m (ap length e ∙ slot_length 256 m a.zn z (omega arith)) ∙ e)
-        c.narrow_parts.ensures
+    (take_at c.copy_from_slice.new.self _ m (ap length e ∙ slot_length 256 m a.zn z (omega arith)) ∙ e)
+    c.narrow_parts.ensures

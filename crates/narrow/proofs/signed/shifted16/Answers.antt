@@ -3,7 +3,6 @@ use mathlib.Core.Path.{refl}
 use lib.Dec.{lit≤}
 use mir.Syntax.{w16}
 use Rattle.narrow.proofs.Widths.{sum_fits, half_is, whole_is}
-use borrow.Author.Rules.{rules}
 use Rattle.narrow.proofs.signed.shifted16.Goals as goal
 
 pub overflow_add-result : goal.overflow_add-result

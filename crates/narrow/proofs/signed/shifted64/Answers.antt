@@ -3,7 +3,6 @@ use mathlib.Core.Path.{refl}
 use lib.Dec.{lit≤}
 use mir.Syntax.{w64}
 use Rattle.narrow.proofs.Widths.{sum_fits, half_is, whole_is}
-use borrow.Author.Rules.{rules}
 use Rattle.narrow.proofs.signed.shifted64.Goals as goal
 
 pub overflow_add-result : goal.overflow_add-result

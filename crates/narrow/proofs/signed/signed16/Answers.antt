@@ -3,7 +3,6 @@ use mathlib.Core.Path.{refl}
 use lib.Dec.{lit≤}
 use mir.Syntax.{w16}
 use Rattle.narrow.proofs.Widths.{lo_fits, hi_fits, lo_carried, hi_carried, lo_le_hi, shift-ready, up_fits, cast_ok, signed_is}
-use borrow.Author.Rules.{rules}
 use Rattle.narrow.proofs.signed.signed16.Goals as goal
 
 pub overflow_cast-a : goal.overflow_cast-a

@@ -2,8 +2,7 @@
 use mathlib.Core.Path.{refl}
 use lib.Dec.{lit≤}
 use mir.Syntax.{w64}
-use Rattle.narrow.proofs.Widths.{lo_is, hi_is, lo_le_hi, shift-ready, up_fits, cast_ok, signed_is}
-use borrow.Author.Rules.{rules}
+use Rattle.narrow.proofs.Widths.{lo_is, hi_is, shift-ready, up_fits, cast_ok, signed_is}
 use Rattle.narrow.proofs.signed.signed64.Goals as goal
 
 pub shifted64-q-requires : goal.shifted64-q-requires

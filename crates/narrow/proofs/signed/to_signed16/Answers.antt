@@ -3,7 +3,6 @@ use mathlib.Core.Path.{◌∙◌}
 use mir.Syntax.{w16}
 use mir.ValLaws.{to_z-of_z}
 use Rattle.narrow.proofs.Widths.{sign_low, sign_high, sign_fits}
-use borrow.Author.Rules.{rules}
 use Rattle.narrow.proofs.signed.to_signed16.Goals as goal
 
 pub returns-then-x-lt32768 : goal.returns-then-x-lt32768

@@ -3,7 +3,6 @@ use mathlib.Core.Path.{◌∙◌}
 use mir.Syntax.{w64}
 use mir.ValLaws.{to_z-of_z}
 use Rattle.narrow.proofs.Widths.{sign_low, sign_high, sign_fits}
-use borrow.Author.Rules.{rules}
 use Rattle.narrow.proofs.signed.to_signed64.Goals as goal
 
 pub returns-then-x-lt9223372036854775808 : goal.returns-then-x-lt9223372036854775808

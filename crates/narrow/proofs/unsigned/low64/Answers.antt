@@ -1,7 +1,5 @@
 -- `low64` meets its contract: half of what is kept and one bit more.
-use native.Mathlib.Omega.{arith}
-use Rattle.narrow.proofs.Rounding.{byte_le, low_is}
-use borrow.Author.Rules.{rules}
+use Rattle.narrow.proofs.Rounding.{low_is}
 use Rattle.narrow.proofs.unsigned.low64.Goals as goal
 
 pub returns : goal.returns

@@ -2,8 +2,7 @@
 use mathlib.Core.Path.{ap, ◌∙◌}
 use Prim.Native.Nat.{ℕ, ◌/◌, ◌%◌, ◌^◌}
 use native.Mathlib.Omega.{arith}
-use Rattle.narrow.proofs.Rounding.{lowered, shr_lt, fits, top_same, term_same, under, over}
-use borrow.Author.Rules.{rules}
+use Rattle.narrow.proofs.Rounding.{lowered, fits, top_same, term_same, under, over}
 use Rattle.narrow.proofs.unsigned.saturated16.Goals as goal
 use Rattle.narrow.proofs.unsigned.saturated16.Goals.{then-v-top, else-v-top}
 
@@ -20,5 +19,6 @@ returns c =
     let f = term_same a.requires in
     let g = fits a.requires in
     elim c.if-v-top.branch [
-    then-v-top w ↦ ap (λ (n : ℕ). n / 2 ^ k) (lowered (t % 65536) (h % 65536) 65535 a.args.x (omega arith) w.y-is) ∙ rw f (under a.requires (omega (arith, w.if-v-top.true)))
-    | else-v-top w ↦ ap (λ (n : ℕ). n / 2 ^ k) (lowered (t % 65536) (h % 65536) 65535 (t % 65536) (omega arith) (w.y-is ∙ omega arith)) ∙ rw (e, f) (over a.requires (omega (arith, w.if-v-top.false))) ]
+      | then-v-top w ↦ ap (λ (n : ℕ). n / 2 ^ k) (lowered (t % 65536) (h % 65536) 65535 a.args.x (omega arith) w.y-is) ∙ rw f (under a.requires (omega (arith, w.if-v-top.true)))
+      | else-v-top w ↦ ap (λ (n : ℕ). n / 2 ^ k) (lowered (t % 65536) (h % 65536) 65535 (t % 65536) (omega arith) (w.y-is ∙ omega arith)) ∙ rw (e, f) (over a.requires (omega (arith, w.if-v-top.false)))
+    ]

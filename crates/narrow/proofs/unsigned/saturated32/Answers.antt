@@ -3,7 +3,6 @@ use mathlib.Core.Path.{ap, ◌∙◌}
 use Prim.Native.Nat.{ℕ, ◌/◌, ◌%◌, ◌^◌}
 use native.Mathlib.Omega.{arith}
 use Rattle.narrow.proofs.Rounding.{fits, top_same, term_same, under_low, over_low}
-use borrow.Author.Rules.{rules}
 use Rattle.narrow.proofs.unsigned.saturated32.Goals as goal
 use Rattle.narrow.proofs.unsigned.saturated32.Goals.{then-v-top, else-v-top}
 
@@ -17,5 +16,6 @@ returns c =
     let e = top_same a.requires in
     let f = term_same a.requires in
     elim c.if-v-top.branch [
-    then-v-top w ↦ ap (λ (n : ℕ). n / 2 ^ k % 65536) w.y-is ∙ rw f (under_low a.requires (omega (arith, w.if-v-top.true)))
-    | else-v-top w ↦ ap (λ (n : ℕ). n / 2 ^ k % 65536) w.y-is ∙ over_low a.requires (omega (arith, w.if-v-top.false)) ]
+      | then-v-top w ↦ ap (λ (n : ℕ). n / 2 ^ k % 65536) w.y-is ∙ rw f (under_low a.requires (omega (arith, w.if-v-top.true)))
+      | else-v-top w ↦ ap (λ (n : ℕ). n / 2 ^ k % 65536) w.y-is ∙ over_low a.requires (omega (arith, w.if-v-top.false))
+    ]

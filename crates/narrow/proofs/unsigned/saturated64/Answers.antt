@@ -3,7 +3,6 @@ use mathlib.Core.Path.{ap, ◌∙◌}
 use Prim.Native.Nat.{ℕ, ◌+◌, ◌/◌, ◌^◌}
 use native.Mathlib.Omega.{arith}
 use Rattle.narrow.proofs.Rounding.{fits, under, over}
-use borrow.Author.Rules.{rules}
 use Rattle.narrow.proofs.unsigned.saturated64.Goals as goal
 use Rattle.narrow.proofs.unsigned.saturated64.Goals.{then-x-a, else-x-a}
 
@@ -16,5 +15,6 @@ returns c =
     let k = a.args.shift in
     let h = a.args.a.h in
     elim c.if-x-a.branch [
-    then-x-a w ↦ ap (λ (n : ℕ). (n + h) / 2 ^ k) w.y-is ∙ under a.requires w.if-x-a.true
-    | else-x-a w ↦ ap (λ (n : ℕ). (n + h) / 2 ^ k) w.y-is ∙ over a.requires w.if-x-a.false ]
+      | then-x-a w ↦ ap (λ (n : ℕ). (n + h) / 2 ^ k) w.y-is ∙ under a.requires w.if-x-a.true
+      | else-x-a w ↦ ap (λ (n : ℕ). (n + h) / 2 ^ k) w.y-is ∙ over a.requires w.if-x-a.false
+    ]

@@ -3,7 +3,7 @@ use mathlib.Core.Path.{◌∙◌}
 use Prim.Native.Nat.{◌-◌}
 use native.Mathlib.Omega.{arith}
 use lib.ListN.{length, get_or, length-set, length-replicate}
-use Rattle.stretch.proofs.Places.{places_none, places-passed, places-stored}
+use Rattle.stretch.proofs.Places.{places_none, places_passed, places_stored}
 use Rattle.stretch.proofs.tables.places.Goals as goal
 
 pub loop-k-init : goal.loop-k-init
@@ -17,7 +17,7 @@ loop-k-preserved-then-position-lt256 c =
       omega arith,
       (
         length-set l.loop-k.place i (l.loop-k.k - 1) ∙ l.loop-k.invariant.1.0,
-        places-stored order (l.loop-k.k - 1) l.loop-k.k (omega arith) (omega arith) l.loop-k.place l.loop-k.invariant.1.1 l.loop-k.invariant.1.0 c.if-position-lt256.true,
+        places_stored order (l.loop-k.k - 1) l.loop-k.k (omega arith) (omega arith) l.loop-k.place l.loop-k.invariant.1.1 l.loop-k.invariant.1.0 c.if-position-lt256.true,
       ),
     )
 
@@ -25,5 +25,5 @@ pub loop-k-preserved : goal.loop-k-preserved
 loop-k-preserved c =
     let l = c in (
       omega arith,
-      (l.loop-k.invariant.1.0, places-passed l.args.order.now (l.loop-k.k - 1) l.loop-k.k (omega arith) (omega arith) l.loop-k.place l.loop-k.invariant.1.1 c.if-position-lt256.false),
+      (l.loop-k.invariant.1.0, places_passed l.args.order.now (l.loop-k.k - 1) l.loop-k.k (omega arith) (omega arith) l.loop-k.place l.loop-k.invariant.1.1 c.if-position-lt256.false),
     )
