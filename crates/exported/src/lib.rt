@@ -68,5 +68,7 @@ pub fn copied(part: &[u8], out: &mut [u8]) -> usize
     if out.len() < part.len() {
         return 0;
     }
-    bytes::copy(part, out)
+    let n = part.len();
+    out[..n].copy_from_slice(part);
+    n
 }

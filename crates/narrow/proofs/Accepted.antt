@@ -33,8 +33,8 @@ module _ (z vl size shift zn zd : ℕ) where
     unfolding narrow_ready
     by_size = ap (λ (b : Bool). is_result size && b) rest ∙ and-true (is_result size)
 
-    pub narrow-accepted : NarrowReady z vl size shift zn zd
-    narrow-accepted =
+    pub narrow_accepted : NarrowReady z vl size shift zn zd
+    narrow_accepted =
         let a = both_yes ((eqb z vector_file && length_allowed vl) && (ltb 0 shift && leb shift size)) (ltb zn 32 && ltb zd 32) rest in
         let b = both_yes (eqb z vector_file && length_allowed vl) (ltb 0 shift && leb shift size) a.0 in
         let f = both_yes (eqb z vector_file) (length_allowed vl) b.0 in

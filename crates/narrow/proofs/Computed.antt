@@ -113,15 +113,15 @@ module _ (r : Bool) (s k h p : ℕ) (is : Sized s k) (eh : h ≡ term r k) (ep :
     unfolding below
     signed_below o e = e ∙ rw (o, eq, ep, eh)
 
-    pub signed-fits : {b : ℕ} → op ≡ true → b ≡ min (p + h) q → b ≤ 2 ^ 63
-    signed-fits o e = let a = room r is in let l = min-le_right (p + h) q in omega arith
+    pub signed_fits : {b : ℕ} → op ≡ true → b ≡ min (p + h) q → b ≤ 2 ^ 63
+    signed_fits o e = let a = room r is in let l = min-le_right (p + h) q in omega arith
 
-    pub above-fits : p - 1 - h < 2 ^ 63
-    above-fits = let a = room r is in omega arith
+    pub above_fits : p - 1 - h < 2 ^ 63
+    above_fits = let a = room r is in omega arith
 
-    pub signed-are : {b : ℕ} {lo hi : ℤ} → op ≡ true → b ≡ min (p + h) q → lo ≡ neg_ℤ (pos b) → hi ≡ pos (p - 1 - h) → SignedBounds op r s k lo hi
+    pub signed_are : {b : ℕ} {lo hi : ℤ} → op ≡ true → b ≡ min (p + h) q → lo ≡ neg_ℤ (pos b) → hi ≡ pos (p - 1 - h) → SignedBounds op r s k lo hi
     unfolding above
-    signed-are o e el eh' = record { least = el ∙ ap (λ (n : ℕ). neg_ℤ (pos n)) (signed_below o e); greatest = eh' ∙ rw (o, ep, eh) }
+    signed_are o e el eh' = record { least = el ∙ ap (λ (n : ℕ). neg_ℤ (pos n)) (signed_below o e); greatest = eh' ∙ rw (o, ep, eh) }
 
     -- op clear
     pub term_fits : h ≤ 2 ^ 63
@@ -130,9 +130,9 @@ module _ (r : Bool) (s k h p : ℕ) (is : Sized s k) (eh : h ≡ term r k) (ep :
     pub capped_fits : (x c : ℕ) {a : ℕ} → a ≡ min x c → c < q → a < 2 ^ 63
     capped_fits x c e l = let b = room r is in let m = min-le_right x c in omega arith
 
-    pub unsigned-are : {a : ℕ} {lo hi : ℤ} → op ≡ false → a ≡ min (p - 1 + (p - h)) (q - 1) → lo ≡ neg_ℤ (pos h) → hi ≡ pos a → SignedBounds op r s k lo hi
+    pub unsigned_are : {a : ℕ} {lo hi : ℤ} → op ≡ false → a ≡ min (p - 1 + (p - h)) (q - 1) → lo ≡ neg_ℤ (pos h) → hi ≡ pos a → SignedBounds op r s k lo hi
     unfolding below above
-    unsigned-are o e el ea =
+    unsigned_are o e el ea =
         let b = room r is in
         let i : p - 1 + (p - h) ≡ 2 ^ (s + k) - 1 - term r k = omega arith in
         record {

@@ -84,14 +84,14 @@ module _ (w : Width) where
     tested : {y : ℤ} {b : Bool} → SFits w y → v ≡ of_z w y → lt_z (to_z w v) (to_z w (of_z w lo)) ≡ b → lt_z y lo ≡ b
     tested {y} g e t = sym (less y lo g fl) ∙ ap (λ (n : ℕ). lt_z (to_z w n) (to_z w (of_z w lo))) (sym e) ∙ t
 
-    pub low-of-hi : v ≡ of_z w hi → lt_z (to_z w v) (to_z w (of_z w lo)) ≡ true → to_z w (of_z w lo) ≡ within lo hi x
-    low-of-hi e t = clash_ℤ (lt_z_yes {a = hi} {b = lo} (passed (tested fh e t))) o
+    pub low_of_hi : v ≡ of_z w hi → lt_z (to_z w v) (to_z w (of_z w lo)) ≡ true → to_z w (of_z w lo) ≡ within lo hi x
+    low_of_hi e t = clash_ℤ (lt_z_yes {a = hi} {b = lo} (passed (tested fh e t))) o
 
-    pub low-of-x : v ≡ of_z w x → lt_z (to_z w v) (to_z w (of_z w lo)) ≡ true → to_z w (of_z w lo) ≡ within lo hi x
-    low-of-x e t = to_z-of_z w lo fl ∙ rw (tested f e t)
+    pub low_of_x : v ≡ of_z w x → lt_z (to_z w v) (to_z w (of_z w lo)) ≡ true → to_z w (of_z w lo) ≡ within lo hi x
+    low_of_x e t = to_z-of_z w lo fl ∙ rw (tested f e t)
 
-    pub is-hi : v ≡ of_z w hi → lt_z (to_z w (of_z w hi)) (to_z w (of_z w x)) ≡ true → to_z w v ≡ within lo hi x
-    is-hi e d = let a = sym (less hi x fh f) ∙ d in ap (to_z w) e ∙ to_z-of_z w hi fh ∙ rw (not_below x lo hi o a, a)
+    pub is_hi : v ≡ of_z w hi → lt_z (to_z w (of_z w hi)) (to_z w (of_z w x)) ≡ true → to_z w v ≡ within lo hi x
+    is_hi e d = let a = sym (less hi x fh f) ∙ d in ap (to_z w) e ∙ to_z-of_z w hi fh ∙ rw (not_below x lo hi o a, a)
 
     pub is_x : v ≡ of_z w x → lt_z (to_z w (of_z w hi)) (to_z w (of_z w x)) ≡ false → lt_z (to_z w v) (to_z w (of_z w lo)) ≡ false → to_z w v ≡ within lo hi x
     is_x e d t = ap (to_z w) e ∙ to_z-of_z w x f ∙ rw (tested f e t, sym (less hi x fh f) ∙ d)
@@ -222,28 +222,28 @@ module _ (w : Width) (s : ℕ) (some : 3 ≤ s) (wide : hbits w ≡ 2 * s - 1) {
         let d : y ≡ within lo hi (signed_of (2 * s) x) = e ∙ ap (λ (z : ℤ). within z hi' (to_z w (of_z w v))) el ∙ ap (λ (z : ℤ). within lo z (to_z w (of_z w v))) eh ∙ ap (within lo hi) (to_z-of_z w v fv ∙ ev) in
         rw (d, p.bounds.least, p.bounds.greatest) (clamp_first r s k p.sized.some p.sized.most op (signed_of (2 * s) x) h)
 
-    q-small : mag (shifted r k y) < 2 ^ s
-    q-small = let i = in_range (signed_form op) r s k (signed_of (2 * s) x) in rw law at (small (signed_form op) s _ i.0 i.1)
+    q_small : mag (shifted r k y) < 2 ^ s
+    q_small = let i = in_range (signed_form op) r s k (signed_of (2 * s) x) in rw law at (small (signed_form op) s _ i.0 i.1)
 
-    pub shift-ready : ShiftReady r s k (to_z w (of_z w y))
-    shift-ready = record { some = p.sized.some; most = p.sized.most; small = rw (to_z-of_z w y f) q-small }
+    pub shift_ready : ShiftReady r s k (to_z w (of_z w y))
+    shift_ready = record { some = p.sized.some; most = p.sized.most; small = rw (to_z-of_z w y f) q_small }
 
     module _ {q : ℤ} (fq : SFits w q) (eq : q ≡ shifted r k (to_z w (of_z w y))) where
       up_is : code_up w s q ≡ shifted r k y +ℤ pos (2 ^ s)
       up_is = ap (λ (z : ℤ). z +ℤ pos (2 ^ s)) (to_z-of_z w q fq ∙ eq ∙ ap (shifted r k) (to_z-of_z w y f))
 
       pub up_fits : SFits w (code_up w s q)
-      up_fits = let l = room w s some wide in let h = raised s (shifted r k y) q-small in record { sfits = rw (up_is ∙ h.0) (omega arith) }
+      up_fits = let l = room w s some wide in let h = raised s (shifted r k y) q_small in record { sfits = rw (up_is ∙ h.0) (omega arith) }
 
       pub cast_ok : T (non_neg (to_z w (of_z w (code_up w s q)))) × Fits w (nat_abs (to_z w (of_z w (code_up w s q))))
       cast_ok =
           let l = room w s some wide in
-          let h = raised s (shifted r k y) q-small in
+          let h = raised s (shifted r k y) q_small in
           let e : to_z w (of_z w (code_up w s q)) ≡ pos (nat_abs (shifted r k y +ℤ pos (2 ^ s))) = to_z-of_z w _ up_fits ∙ up_is ∙ h.0 in
           let b = pow-bits w in
           rw e (tt, record { fits = omega arith })
 
       pub signed_is : nat_abs (to_z w (of_z w (code_up w s q))) % 2 ^ s ≡ narrowed (form op false) r s k x
       signed_is =
-          let h = raised s (shifted r k y) q-small in
+          let h = raised s (shifted r k y) q_small in
           ap (λ (z : ℤ). nat_abs z % 2 ^ s) (to_z-of_z w _ up_fits ∙ up_is) ∙ h.2 ∙ ap (low s) (sym law) ∙ sym (narrowed_is op r s k x)

@@ -3,7 +3,7 @@ use mathlib.Core.Path.{◌∙◌}
 use native.Mathlib.Omega.{arith}
 use mir.Syntax.{w64}
 use mir.ValLaws.{to_z-of_z, to_z_pos}
-use Rattle.narrow.proofs.Computed.{room, unsigned_prepared, signed_prepared, term_lt, most, top_is, above-fits, signed-are, term_fits, capped_fits, unsigned-are}
+use Rattle.narrow.proofs.Computed.{room, unsigned_prepared, signed_prepared, term_lt, most, top_is, above_fits, signed_are, term_fits, capped_fits, unsigned_are}
 use Rattle.narrow.proofs.bounds.bounds_of.Goals as goal
 
 pub overflow_sub-result-then-u : goal.overflow_sub-result-then-u
@@ -19,7 +19,7 @@ pub overflow_sub-result-then-op-2 : goal.overflow_sub-result-then-op-2
 overflow_sub-result-then-op-2 c = let l = term_lt c.args.r c.args.size c.args.shift _ _ c.requires c.term_of-h.ensures c.power-p.ensures in let m = most c.args.r c.args.size c.args.shift _ _ c.requires c.term_of-h.ensures c.power-p.ensures in omega arith
 
 pub returns-then-op : goal.returns-then-op
-returns-then-op c = signed_prepared c.requires c.if-u.false (signed-are c.args.r c.args.size c.args.shift _ _ c.requires c.term_of-h.ensures c.power-p.ensures c.args.op _ c.power-q.ensures c.if-op.true c.at_most-b.ensures (to_z-of_z w64 _ (record { sfits = c.minus.type_inv }) ∙ c.minus.ensures) (to_z_pos w64 _ (above-fits c.args.r c.args.size c.args.shift _ _ c.requires c.term_of-h.ensures c.power-p.ensures c.args.op _ c.power-q.ensures)))
+returns-then-op c = signed_prepared c.requires c.if-u.false (signed_are c.args.r c.args.size c.args.shift _ _ c.requires c.term_of-h.ensures c.power-p.ensures c.args.op _ c.power-q.ensures c.if-op.true c.at_most-b.ensures (to_z-of_z w64 _ (record { sfits = c.minus.type_inv }) ∙ c.minus.ensures) (to_z_pos w64 _ (above_fits c.args.r c.args.size c.args.shift _ _ c.requires c.term_of-h.ensures c.power-p.ensures c.args.op _ c.power-q.ensures)))
 
 pub overflow_sub-p-2 : goal.overflow_sub-p-2
 overflow_sub-p-2 c = let l = term_lt c.args.r c.args.size c.args.shift _ _ c.requires c.term_of-h.ensures c.power-p.ensures in let m = most c.args.r c.args.size c.args.shift _ _ c.requires c.term_of-h.ensures c.power-p.ensures in omega arith
@@ -28,4 +28,4 @@ pub minus-requires-2 : goal.minus-requires-2
 minus-requires-2 c = term_fits c.args.r c.args.size c.args.shift _ _ c.requires c.term_of-h.ensures c.power-p.ensures c.args.op _ c.power-q.ensures
 
 pub returns : goal.returns
-returns c = signed_prepared c.requires c.if-u.false (unsigned-are c.args.r c.args.size c.args.shift _ _ c.requires c.term_of-h.ensures c.power-p.ensures c.args.op _ c.power-q.ensures c.if-op.false c.at_most-a.ensures (to_z-of_z w64 _ (record { sfits = c.minus-2.type_inv }) ∙ c.minus-2.ensures) (to_z_pos w64 _ (capped_fits c.args.r c.args.size c.args.shift _ _ c.requires c.term_of-h.ensures c.power-p.ensures c.args.op _ c.power-q.ensures _ _ c.at_most-a.ensures (let l = room c.args.r c.requires in let e = c.power-q.ensures in omega arith))))
+returns c = signed_prepared c.requires c.if-u.false (unsigned_are c.args.r c.args.size c.args.shift _ _ c.requires c.term_of-h.ensures c.power-p.ensures c.args.op _ c.power-q.ensures c.if-op.false c.at_most-a.ensures (to_z-of_z w64 _ (record { sfits = c.minus-2.type_inv }) ∙ c.minus-2.ensures) (to_z_pos w64 _ (capped_fits c.args.r c.args.size c.args.shift _ _ c.requires c.term_of-h.ensures c.power-p.ensures c.args.op _ c.power-q.ensures _ _ c.at_most-a.ensures (let l = room c.args.r c.requires in let e = c.power-q.ensures in omega arith))))
