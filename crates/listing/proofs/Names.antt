@@ -11,11 +11,12 @@ use Rattle.setting.specs.Numbers.{Outcome, accept, refuse}
 use Rattle.element.specs.Contents.{digit}
 use Rattle.encoding.specs.Instructions.{is_set, narrow_number}
 use Rattle.encoding.specs.Names.{narrow_letters}
-use Rattle.encoding.specs.Rows.{pext1, pext2}
+use Rattle.encoding.specs.Rows.{rows, pext1, pext2}
 use Rattle.encoding.specs.Places.{place_in}
 use Rattle.encoding.specs.Decode.{decode_of}
 use Rattle.encoding.specs.declared.Instruction.{Instruction}
 use Rattle.encoding.specs.declared.Instruction.TheVariants.{Pext, Psel, Luti4c, Luti4s, Narrow}
+use Rattle.encoding.proofs.Round.{place_lt}
 use Rattle.encoding.proofs.FourBits.{FourBits, four_bits}
 use Rattle.encoding.specs.Named.{name_in}
 use Rattle.text.specs.Name.{all_on, name_of}
@@ -24,6 +25,14 @@ use Rattle.listing.specs.Private.{names, name_at}
 -- the index by the form's place, and of a narrowing word by op:U:R:T
 abbrev pub index_of : ℕ → ℕ → ℕ
 index_of place bits = place + (pick (eqb place 5) bits 0 + pick (eqb place 6) 15 0)
+
+pub pick_le : (b : Bool) (n m : ℕ) → n ≤ m → pick b n 0 ≤ m
+pick_le true n m h = h
+pick_le false n m h = omega arith
+
+pub place_le : (o : Outcome Instruction) → place_in o ≤ length rows
+place_le (accept i) = omega (arith, place_lt i)
+place_le (refuse n) = omega arith
 
 flags_named : (op u r t : Bool) → name_at (5 + (narrow_number op u r t + 0)) ≡ narrow_letters (is_set (digit op)) (is_set (digit u)) (is_set (digit r)) (is_set (digit t))
 flags_named false false false false = refl

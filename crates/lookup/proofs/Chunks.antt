@@ -2,12 +2,12 @@
 use mathlib.Core.Path.{◌≡◌, refl, subst, ap, ◌∙◌}
 use mathlib.Core.Bool.{true}
 use mathlib.Core.Logic.{⊎_elim, inl, inr}
-use mathlib.Core.List.{List, ◌++◌}
-use Prim.Native.Nat.{ℕ, ◌+◌, ◌-◌, ◌*◌, ◌/◌, ◌≤◌, ◌<◌}
-use native.Mathlib.Nat.{mul_assoc, mul-le-mul_right, div-mul-le_self, div-le_self}
+use mathlib.Core.List.{List, ◌++◌, append-nil}
+use Prim.Native.Nat.{ℕ, ◌+◌, ◌-◌, ◌*◌, ◌/◌, ◌%◌, ◌≤◌, ◌<◌}
+use native.Mathlib.Nat.{mod-add-div', mul_assoc, mul-le-mul_right, div-mul-le_self, div-le_self}
 use native.Mathlib.Omega.{arith}
 use lib.Dec.{lit<}
-use lib.ListN.{drop}
+use lib.ListN.{length, drop, drop_of_length-le}
 use borrow.Rule.Slice.PartMut.{put_mid}
 use Rattle.element.specs.Contents.{fill}
 use Rattle.element.proofs.Filling.{turn, chunk}
@@ -43,6 +43,9 @@ chunks_of {w} source v =
     let g : n * (32 / w) * (2 * w) ≤ source * (2 * w) = mul-le-mul_right (2 * w) h in
     record { few = div-le_self source (32 / w); within = h; room = omega arith }
 
+pub whole_chunks : (source per : ℕ) → source % per ≡ 0 → source / per * per ≡ source
+whole_chunks source per e = omega (arith, mod-add-div' source per)
+
 -- chunk q is one of them
 pub chunk_within : {source w : ℕ} (n q : ℕ) → Chunks source w n → q < n → q * (32 / w) + 32 / w ≤ source
 chunk_within {source} {w} n q h l = omega (arith, turn q n (32 / w) l, h.within)
@@ -58,3 +61,7 @@ module _ (f : ℕ → ℕ) (w : ℕ) where
       subst (λ (n : ℕ). o ≡ fill f w (q * per) ++ drop (q * n) o₀ → put_mid (q * n) (q * n + n - q * n) o ys ≡ fill f w ((q + 1) * per) ++ drop ((q + 1) * n) o₀) e
       (λ i. chunk f w per q o₀ o ys i y)
       i
+
+  -- after the last turn nothing of o₀ is left
+  pub chunks_done : (k a : ℕ) (o₀ o : List ℕ) → length o₀ ≤ a → o ≡ fill f w k ++ drop a o₀ → o ≡ fill f w k
+  chunks_done k a o₀ o l i = i ∙ rw (drop_of_length-le o₀ l, append-nil)
