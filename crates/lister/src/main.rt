@@ -28,7 +28,13 @@ fn list<W: Write>(writer: &mut W, input: &[u8], out: &mut [u8]) -> bool
 
 // Reads once behind the bytes kept, lists the whole records, and keeps the bytes behind them; at
 // the end of the input lists those.
-fn turn<R: Read, W: Write>(reader: &mut R, writer: &mut W, buf: &mut [u8], out: &mut [u8], kept: usize) -> State
+fn turn<R: Read, W: Write>(
+    reader: &mut R,
+    writer: &mut W,
+    buf: &mut [u8],
+    out: &mut [u8],
+    kept: usize,
+) -> State
     requires { (kept ≤ 3) × (length buf.old ≡ 65538) × (length out.old ≡ 311296) }
     ensures { result.kept ≤ 3 }
 {
