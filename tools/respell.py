@@ -3,7 +3,8 @@
 
 usage: python3 tools/respell.py [FOLDER]     once, right after port.py, at the top of the repository (or of FOLDER)
 
-Words go to snake case (`stepOf` to `step_of`, `back-a` to `back_a`); a lemma that would have its definition's name gets `_lem`.
+Words go to snake case (`stepOf` to `step_of`, `back-a` to `back_a`), facts to camel case (`noRow`, which port.py makes `no_row`, to `NoRow`);
+a lemma that would have its definition's name gets `_lem`.
 Types, modules, functions of src/, exported C names, strings, inputs and outputs keep their names.
 In crates/ the code of .antt files, the clauses and comments of .rt files and the texts of .edit files turn; in README.md and docs/ (not in
 docs/landings/, which is history) code spans turn.
@@ -30,6 +31,11 @@ ONLY_IN = {
     "all_read": ("crates/stretch/proofs/permitted/",),
     # The check has a name spelled so for a call in `listing`.
     "form-place": ("crates/decoder/",),
+    # A fact of a list is a type; `machine` has a lemma of the first name.
+    "no_row": ("crates/encoding/",),
+    "every_row": ("crates/encoding/",),
+    # The lemma; its crate's definition keeps the name.
+    "chunks_of": ("crates/narrow/proofs/Accepted.antt",),
 }
 
 
@@ -53,31 +59,22 @@ def turn(text, words, path):
     return WORD.sub(one, text)
 
 
-def turn_antt(text, words, path):
-    """Code turns whole; of a comment its code spans, and words in camel case, which no English word is."""
-    out = []
-    camel = {w: n for w, n in words.items() if re.match(r"[a-z]+[0-9a-z]*[A-Z]", w)}
-    for line in text.split("\n"):
-        m = re.match(r"^(\s*--)(.*)$", line)
-        if m:
-            c = SPAN.sub(lambda s: turn(s[0], words, path), m[2])
-            out.append(m[1] + turn(c, camel, path))
-        else:
-            out.append(turn(line, words, path))
-    return "\n".join(out)
+def turn_code(mark):
+    """Code turns whole; of a comment, which begins with the mark, its code spans, and words in camel case, which no English word is."""
 
+    def turn_lines(text, words, path):
+        camel = {w: n for w, n in words.items() if re.match(r"[a-z]+[0-9a-z]*[A-Z]", w)}
+        out = []
+        for line in text.split("\n"):
+            m = re.match(r"^(\s*" + mark + r")(.*)$", line)
+            if m:
+                spans = SPAN.sub(lambda s: turn(s[0], words, path), m[2])
+                out.append(m[1] + turn(spans, camel, path))
+            else:
+                out.append(turn(line, words, path))
+        return "\n".join(out)
 
-def turn_rt(text, words, path):
-    out = []
-    camel = {w: n for w, n in words.items() if re.match(r"[a-z]+[0-9a-z]*[A-Z]", w)}
-    for line in text.split("\n"):
-        m = re.match(r"^(\s*//)(.*)$", line)
-        if m:
-            c = SPAN.sub(lambda s: turn(s[0], words, path), m[2])
-            out.append(m[1] + turn(c, camel, path))
-        else:
-            out.append(turn(line, words, path))
-    return "\n".join(out)
+    return turn_lines
 
 
 def turn_md(text, words, path):
@@ -96,9 +93,9 @@ def main(argv):
             kind = None
             if path.startswith("crates/"):
                 if f.endswith(".antt") or f.endswith(".edit"):
-                    kind = turn_antt
+                    kind = turn_code("--")
                 elif f.endswith(".rt"):
-                    kind = turn_rt
+                    kind = turn_code("//")
             elif f.endswith(".md") and (path == "README.md" or path.startswith("docs/")):
                 kind = turn_md
             if kind is None:

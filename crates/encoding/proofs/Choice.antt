@@ -12,7 +12,7 @@ use Rattle.encoding.specs.Layout.{fields_of, matches}
 use Rattle.encoding.specs.Rows.{Row, row_matches}
 use Rattle.encoding.specs.Places.{place_first}
 use Rattle.encoding.specs.Decode.{first_of, read_at}
-use Rattle.encoding.specs.Claims.{no_row, count_rows}
+use Rattle.encoding.specs.Claims.{NoRow, count_rows}
 use Rattle.encoding.specs.declared.Instruction.{Instruction}
 use Rattle.encoding.proofs.LayoutLaws.{sound}
 use Rattle.encoding.proofs.Apart.{decide, apart, not_both}
@@ -46,14 +46,14 @@ own_sound r [] a = a
 own_sound r (q ∷ qs) a = own_sound r qs (both (sound q.layout && apart r.layout q.layout) (apart_from r qs) a).1
 
 -- where a row's layout matches, none that is apart from it does
-others_not : (r : Row) (rs : List Row) → T (apart_from r rs) → (w : ℕ) → matches r.layout w ≡ true → no_row (λ q. matches q.layout w) rs
+others_not : (r : Row) (rs : List Row) → T (apart_from r rs) → (w : ℕ) → matches r.layout w ≡ true → NoRow (λ q. matches q.layout w) rs
 others_not r [] a w m = tt
 others_not r (q ∷ qs) a w m =
     let p = both (sound q.layout && apart r.layout q.layout) (apart_from r qs) a in
     let o = both (sound q.layout) (apart r.layout q.layout) p.0 in
     (not_both r.layout q.layout (own_sound r qs p.1) o.0 o.1 w m, others_not r qs p.1 w m)
 
-pub none_first : (rs : List Row) (f w : ℕ) → no_row (λ r. row_matches r f w) rs → first_of rs f w ≡ refuse 3
+pub none_first : (rs : List Row) (f w : ℕ) → NoRow (λ r. row_matches r f w) rs → first_of rs f w ≡ refuse 3
 none_first [] f w n = refl
 none_first (r ∷ rs) f w n = simp n.0 (none_first rs f w n.1)
 
@@ -61,7 +61,7 @@ none_first (r ∷ rs) f w n = simp n.0 (none_first rs f w n.1)
 layout_matches : (r : Row) (f w : ℕ) → row_matches r f w ≡ true → matches r.layout w ≡ true
 layout_matches r f w m = decide (matches r.layout w) (λ l. l) (λ l. let c = simp l at m in cc)
 
-none_at : (rs : List Row) (k f w : ℕ) → no_row (λ r. matches r.layout w) rs → matches_at rs k f w ≡ true → ⊥
+none_at : (rs : List Row) (k f w : ℕ) → NoRow (λ r. matches r.layout w) rs → matches_at rs k f w ≡ true → ⊥
 none_at [] k f w n e = let z : ◌≡◌ {A = ℕ} 0 1 = cc in omega arith
 none_at (r ∷ rs) zero f w n e = let l = layout_matches r f w e in let t = n.0 in let z : ◌≡◌ {A = ℕ} 0 1 = cc in omega arith
 none_at (r ∷ rs) (suc k) f w n e = none_at rs k f w n.1 e
@@ -77,7 +77,7 @@ place_is (r ∷ rs) d (suc k) f w m =
     (λ l. absurd (none_at rs k f w (others_not r rs p.0 w (layout_matches r f w l)) m))
     (λ l. simp l (ap suc (place_is rs p.1 k f w m)))
 
-count_none : (rs : List Row) (w : ℕ) → no_row (λ r. matches r.layout w) rs → count_rows (λ r. matches r.layout w) rs ≡ 0
+count_none : (rs : List Row) (w : ℕ) → NoRow (λ r. matches r.layout w) rs → count_rows (λ r. matches r.layout w) rs ≡ 0
 count_none [] w n = refl
 count_none (r ∷ rs) w n = simp (n.0, count_none rs w n.1)
 
@@ -90,7 +90,7 @@ at_most_one (r ∷ rs) d w =
     (λ m. simp m (omega (arith, at_most_one rs p.1 w)))
 
 -- a refusal with 3 means that no row matches
-pub refused_none : (rs : List Row) (f w : ℕ) → first_of rs f w ≡ refuse 3 → no_row (λ r. row_matches r f w) rs
+pub refused_none : (rs : List Row) (f w : ℕ) → first_of rs f w ≡ refuse 3 → NoRow (λ r. row_matches r f w) rs
 refused_none [] f w e = tt
 refused_none (r ∷ rs) f w e =
     decide (row_matches r f w)
@@ -108,13 +108,13 @@ each_row t (r ∷ rs) d a h zero = (both (t r) (test_rows t rs) a).0
 each_row t (r ∷ rs) d a h (suc k) = each_row t rs d (both (t r) (test_rows t rs) a).1 h k
 
 -- what holds of every row of a list
-abbrev pub every_row : (Row → Type 0) → List Row → Type 0
-every_row P [] = Unit {0}
-every_row P (r ∷ rs) = P r × every_row P rs
+abbrev pub EveryRow : (Row → Type 0) → List Row → Type 0
+EveryRow P [] = Unit {0}
+EveryRow P (r ∷ rs) = P r × EveryRow P rs
 
 -- what is accepted is some row's reading of the word's fields
 pub accepted_by : (C : Instruction → Type 0) (f w : ℕ) (rs : List Row)
-    → every_row (λ r. row_matches r f w ≡ true → C (r.reading (fields_of r.layout w))) rs → (i : Instruction) → first_of rs f w ≡ accept i → C i
+    → EveryRow (λ r. row_matches r f w ≡ true → C (r.reading (fields_of r.layout w))) rs → (i : Instruction) → first_of rs f w ≡ accept i → C i
 accepted_by C f w [] p i e = let z : ◌≡◌ {A = ℕ} 0 1 = cc in absurd (omega arith)
 accepted_by C f w (r ∷ rs) p i e =
     decide (row_matches r f w)

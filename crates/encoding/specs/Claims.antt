@@ -14,9 +14,9 @@ use Rattle.encoding.specs.NarrowWords.{NarrowNamed}
 use Rattle.encoding.specs.declared.Instruction.{Instruction}
 
 -- no row of the list passes the test
-abbrev pub no_row : (Row → Bool) → List Row → Type 0
-no_row test [] = Unit {0}
-no_row test (r ∷ rs) = (test r ≡ false) × no_row test rs
+abbrev pub NoRow : (Row → Bool) → List Row → Type 0
+NoRow test [] = Unit {0}
+NoRow test (r ∷ rs) = (test r ≡ false) × NoRow test rs
 
 -- how many rows of the list pass the test
 abbrev pub count_rows : (Row → Bool) → List Row → ℕ
@@ -27,7 +27,7 @@ count_rows test (r ∷ rs) = pick (test r) 1 0 + count_rows test rs
 abbrev pub UndefinedExactly : Type 0
 UndefinedExactly =
     (s : Setting) (w : ℕ) → allowed_of s ≡ true
-    → (decode_of s w ≡ refuse 3 → no_row (λ r. row_matches r s.features w) rows) × (no_row (λ r. row_matches r s.features w) rows → decode_of s w ≡ refuse 3)
+    → (decode_of s w ≡ refuse 3 → NoRow (λ r. row_matches r s.features w) rows) × (NoRow (λ r. row_matches r s.features w) rows → decode_of s w ≡ refuse 3)
 
 -- no word matches two layouts
 abbrev pub OneLayout : Type 0

@@ -14,8 +14,8 @@ use Rattle.part.proofs.Lengths.{lengths_of}
 use Rattle.narrowing.specs.Calls.{rest_ready, narrow_ready}
 use Rattle.narrow.specs.Private.{Chunks, NarrowReady}
 
-chunks_of : (vl : ℕ) → length_allowed vl ≡ true → Chunks (vl / 128 % 32)
-chunks_of =
+chunks_of_lem : (vl : ℕ) → length_allowed vl ≡ true → Chunks (vl / 128 % 32)
+chunks_of_lem =
     length_cases (λ (vl : ℕ). Chunks (vl / 128 % 32))
     (inl refl)
     (inr (inl refl))
@@ -43,7 +43,7 @@ module _ (z vl size shift zn zd : ℕ) where
         record {
           slots = eqb-true z vector_file f.0;
           lengths = lengths_of vl f.1;
-          length = chunks_of vl f.1;
+          length = chunks_of_lem vl f.1;
           low = ltb-true 0 shift n.0;
           high = leb-true shift size n.1;
           from = ltb-true zn 32 r.0;

@@ -16,7 +16,7 @@ fn product(a: u32, b: u32) -> u64 {
     (a as u64) * (b as u64)
 }
 
-// The low 64 bits of a product, by halves: the language has no product that wraps.
+// The low 64 bits of a product, by halves.
 fn times(a: u64, b: u64) -> u64 {
     let first = low(product(high(a), low(b)));
     let second = low(product(low(a), high(b)));
