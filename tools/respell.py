@@ -31,9 +31,8 @@ ONLY_IN = {
     "all_read": ("crates/stretch/proofs/permitted/",),
     # The check has a name spelled so for a call in `listing`.
     "form-place": ("crates/decoder/",),
-    # A fact of a list is a type; `machine` has a lemma of the first name.
+    # A fact of a list is a type; `machine` has a lemma of the name.
     "no_row": ("crates/encoding/",),
-    "every_row": ("crates/encoding/",),
     # The lemma; its crate's definition keeps the name.
     "chunks_of": ("crates/narrow/proofs/Accepted.antt",),
 }
