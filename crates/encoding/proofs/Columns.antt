@@ -17,6 +17,7 @@ use Rattle.encoding.specs.Layout.{Piece, width, matches, fixed_of}
 use Rattle.encoding.specs.Rows.{Row, rows}
 use Rattle.encoding.specs.Places.{layout_at, features_at, has_layout}
 use Rattle.encoding.specs.Private.{feature_bits}
+use Rattle.encoding.specs.declared.table.Fixed.{Fixed}
 use Rattle.encoding.proofs.LayoutLaws.{sound, mask_of, matches_masked, masked_matches}
 use Rattle.encoding.proofs.Apart.{decide}
 
@@ -33,11 +34,12 @@ none_below_at_least (suc n) k h = let l = none_below_at_least n k h.0 in let e =
 abbrev pub layouts : List (List Piece)
 layouts = map (λ (r : Row). r.layout) rows
 
-abbrev pub masks : List ℕ
-masks = map mask_of layouts
+-- the bits that a layout fixes, and what it fixes them to
+abbrev pub bits_in : List Piece → Fixed
+bits_in L = record { mask = mask_of L; bits = fixed_of L }
 
-abbrev pub fixed : List ℕ
-fixed = map fixed_of layouts
+abbrev pub fixed : List Fixed
+fixed = map bits_in layouts
 
 wide : (k : ℕ) → k < length rows → width (layout_at k) ≡ 32
 wide k h = eqb→eq (width (layout_at k)) 32 (below (λ j. eqb (width (layout_at j)) 32) (length rows) tt k h)
@@ -45,17 +47,17 @@ wide k h = eqb→eq (width (layout_at k)) 32 (below (λ j. eqb (width (layout_at
 layout_sound : (k : ℕ) → k < length rows → T (sound (layout_at k))
 layout_sound k h = below (λ j. sound (layout_at j)) (length rows) tt k h
 
-pub fixed_at : (k : ℕ) → get_or fixed k 0 ≡ fixed_of (layout_at k)
-fixed_at k = get_or-map fixed_of layouts k []
+pub fixed_at : (k : ℕ) → get_or fixed k (bits_in []) ≡ bits_in (layout_at k)
+fixed_at k = get_or-map bits_in layouts k []
 
 -- comparing the fixed bits tells whether the layout matches
-pub fixed_bits_tell : (k w : ℕ) → k < length rows → w < 2 ^ 32 → eqb (bit_and w (get_or masks k 0)) (get_or fixed k 0) ≡ has_layout k w
+pub fixed_bits_tell : (k w : ℕ) → k < length rows → w < 2 ^ 32 → eqb (bit_and w (get_or fixed k (bits_in [])).mask) (get_or fixed k (bits_in [])).bits ≡ has_layout k w
 fixed_bits_tell k w h l =
-    let m : get_or masks k 0 ≡ mask_of (layout_at k) = get_or-map mask_of layouts k [] in
-    let f = fixed_at k in
+    let m = ap (λ (x : Fixed). x.mask) (fixed_at k) in
+    let f = ap (λ (x : Fixed). x.bits) (fixed_at k) in
     rw (lt-ltb k (length rows) h) (decide (matches (layout_at k) w)
-    (λ e. eq-eqb (bit_and w (get_or masks k 0)) (get_or fixed k 0) (ap (bit_and w) m ∙ matches_masked (layout_at k) (layout_sound k h) w e ∙ sym f) ∙ sym e)
-    (λ e. ne_eqb (bit_and w (get_or masks k 0)) (get_or fixed k 0) (λ q. false≢true (sym e ∙ masked_matches (layout_at k) w (rw (wide k h) l) (ap (bit_and w) (sym m) ∙ q ∙ f))) ∙ sym e))
+    (λ e. eq-eqb (bit_and w (get_or fixed k (bits_in [])).mask) (get_or fixed k (bits_in [])).bits (ap (bit_and w) m ∙ matches_masked (layout_at k) (layout_sound k h) w e ∙ sym f) ∙ sym e)
+    (λ e. ne_eqb (bit_and w (get_or fixed k (bits_in [])).mask) (get_or fixed k (bits_in [])).bits (λ q. false≢true (sym e ∙ masked_matches (layout_at k) w (rw (wide k h) l) (ap (bit_and w) (sym m) ∙ q ∙ f))) ∙ sym e))
 
 pub no_layout : (k w : ℕ) → length rows ≤ k → false ≡ has_layout k w
 no_layout k w h = rw (le-ltb k (length rows) h)

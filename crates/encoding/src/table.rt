@@ -8,13 +8,38 @@ ghost use Rattle.encoding.specs.Private.{feature_bits};
 // The number of rows, and the place of no row.
 pub const ROWS: usize = 6;
 
-// The bits that each layout fixes, and what it fixes them to.
-const MASKS: [u32; ROWS] = [
-    0xff3ffc10, 0xff3ffe10, 0xff20c210, 0xfffecc03, 0xfffecc0c, 0xffa0c000,
-];
+// The bits that a layout fixes, and what it fixes them to.
+#[derive(Clone, Copy)]
+struct Fixed {
+    mask: u32,
+    bits: u32,
+}
 
-const FIXED: [u32; ROWS] = [
-    0x25207010, 0x25207410, 0x25204000, 0xc08a8000, 0xc09a8000, 0x45200000,
+const LAYOUTS: [Fixed; ROWS] = [
+    Fixed {
+        mask: 0xff3ffc10,
+        bits: 0x25207010,
+    },
+    Fixed {
+        mask: 0xff3ffe10,
+        bits: 0x25207410,
+    },
+    Fixed {
+        mask: 0xff20c210,
+        bits: 0x25204000,
+    },
+    Fixed {
+        mask: 0xfffecc03,
+        bits: 0xc08a8000,
+    },
+    Fixed {
+        mask: 0xfffecc0c,
+        bits: 0xc09a8000,
+    },
+    Fixed {
+        mask: 0xffa0c000,
+        bits: 0x45200000,
+    },
 ];
 
 // The names: of the rows that have one, in their order, of the narrowing words by op:U:R:T, and of no row.
@@ -38,7 +63,7 @@ pub fn has_layout(place: usize, word: u32) -> bool
     ensures { result ≡ has_layout place word }
 {
     if place < ROWS {
-        return word & MASKS[place] == FIXED[place];
+        return word & LAYOUTS[place].mask == LAYOUTS[place].bits;
     }
     false
 }
@@ -48,7 +73,7 @@ pub fn fixed_bits(place: usize) -> u32
     ensures { result ≡ fixed_of (layout_at place) }
 {
     if place < ROWS {
-        return FIXED[place];
+        return LAYOUTS[place].bits;
     }
     0
 }
