@@ -1,16 +1,15 @@
--- Seven numbers: each form's are seven and read back, what the definitions are in each case of a list's length, and that seven stores fill a list of seven.
-use mathlib.Core.Path.{◌≡◌, refl, sym, ap, ◌∙◌}
+-- Seven numbers: each form's are seven and read back, and what the definitions are in each case of a list's length.
+use mathlib.Core.Path.{◌≡◌, refl}
 use mathlib.Core.Bool.{Bool, true, false}
 use mathlib.Core.List.{List}
 use Prim.Native.Nat.{ℕ}
-use lib.ListN.{length, get_or, set}
+use lib.ListN.{length, get_or}
 use borrow.Author.Tests.{eq-eqb, ne_eqb}
 use Rattle.setting.specs.Numbers.{Outcome, accept, refuse}
 use Rattle.encoding.specs.Instructions.{narrow_number}
 use Rattle.encoding.specs.declared.Instruction.{Instruction}
 use Rattle.encoding.specs.declared.Instruction.TheVariants.{Pext, Psel, Luti4c, Luti4s, Narrow}
-use Rattle.element.proofs.Spelled.{spelled}
-use Rattle.numbers.specs.Fields.{numbers_of, numbers_into, narrow_at, instruction_at, instruction_of}
+use Rattle.numbers.specs.Fields.{numbers_of, narrow_at, instruction_at, instruction_of}
 use Rattle.numbers.specs.Claims.{NumbersRead, RetiredUnused}
 
 -- ---- reading
@@ -51,20 +50,6 @@ numbers_read (Psel size offset index pn pm pd) = refl
 numbers_read (Luti4c size i1 zn zd) = refl
 numbers_read (Luti4s size i1 zn zd) = refl
 numbers_read (Narrow op u r t size shift zn zd) = flags_read op u r t size shift zn zd
-
--- seven stores fill a list of seven
-stored : (out n : List ℕ) → length out ≡ 7 → length n ≡ 7
-    → set (set (set (set (set (set (set out 0 (get_or n 0 0)) 1 (get_or n 1 0)) 2 (get_or n 2 0)) 3 (get_or n 3 0)) 4 (get_or n 4 0)) 5 (get_or n 5 0)) 6 (get_or n 6 0) ≡ n
-stored out n l m =
-    ap (λ (o : List ℕ). set (set (set (set (set (set (set o 0 (get_or n 0 0)) 1 (get_or n 1 0)) 2 (get_or n 2 0)) 3 (get_or n 3 0)) 4 (get_or n 4 0)) 5 (get_or n 5 0)) 6 (get_or n 6 0)) (spelled 7 out l) ∙ sym (spelled 7 n m)
-
-module _ (i : Instruction) (out : List ℕ) where
-  pub other_length : (length out ≡ 7 → ⊥) → out ≡ numbers_into i out
-  other_length h = rw (ne_eqb (length out) 7 h)
-
-  pub all_seven : (n : List ℕ) → length out ≡ 7 → n ≡ numbers_of i
-      → set (set (set (set (set (set (set out 0 (get_or n 0 0)) 1 (get_or n 1 0)) 2 (get_or n 2 0)) 3 (get_or n 3 0)) 4 (get_or n 4 0)) 5 (get_or n 5 0)) 6 (get_or n 6 0) ≡ numbers_into i out
-  all_seven n l e = rw (eq-eqb (length out) 7 l) (stored out n l (ap length e ∙ seven i) ∙ e)
 
 -- ---- writing
 module _ (xs : List ℕ) where

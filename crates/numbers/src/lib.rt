@@ -53,14 +53,7 @@ pub fn put(instruction: Instruction, out: &mut [u32])
     if out.len() != 7 {
         return;
     }
-    let n = numbers(instruction);
-    out[0] = n[0];
-    out[1] = n[1];
-    out[2] = n[2];
-    out[3] = n[3];
-    out[4] = n[4];
-    out[5] = n[5];
-    out[6] = n[6];
+    out.copy_from_slice(&numbers(instruction));
 }
 
 fn luti4(strided: bool, size: u32, i1: u32, zn: u32, zd: u32) -> Result<Instruction, Refusal>
@@ -121,12 +114,10 @@ fn named(form: u32, a: u32, b: u32, c: u32, d: u32, e: u32, f: u32) -> Result<In
 pub fn instruction(fields: &[u32]) -> Result<Instruction, Refusal>
     ensures { decoded_as result ≡ instruction_of fields.now }
 {
-    if fields.len() != 7 {
+    let [form, a, b, c, d, e, f] = fields else {
         return Err(Refusal::OutOfRange);
-    }
-    named(
-        fields[0], fields[1], fields[2], fields[3], fields[4], fields[5], fields[6],
-    )
+    };
+    named(*form, *a, *b, *c, *d, *e, *f)
 }
 
 // The theorems about these definitions. It does nothing: its promise has the check demand their proofs.
