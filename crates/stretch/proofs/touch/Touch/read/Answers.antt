@@ -2,7 +2,7 @@
 use mathlib.Core.Path.{sym, ap, ◌∙◌}
 use Rattle.encoding.specs.Decode.{decoded_as}
 use Rattle.encoding.proofs.Round.{read_in_range}
-use Rattle.stretch.proofs.touch.read.Goals as goal
+use Rattle.stretch.proofs.touch.Touch.read.Goals as goal
 
 pub touch_of-requires : goal.touch_of-requires
 touch_of-requires c =
