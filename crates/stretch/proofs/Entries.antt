@@ -19,12 +19,12 @@ use Rattle.stretch.specs.declared.touch.Touch.{Touch}
 use Rattle.stretch.specs.declared.tables.Entry.{Entry}
 
 module _ (s : Setting) (words : List ℕ) where
-  pub told_none : Told s words 0 (replicate 256 (entry (joined 0 0) (length words)))
-  told_none = record {
-    long = length-replicate 256 (entry (joined 0 0) (length words));
+  pub told_none : (t : Touch) → Told s words 0 (replicate 256 (entry t (length words)))
+  told_none t = record {
+    long = length-replicate 256 (entry t (length words));
     read = refl;
     touch = λ i h. absurd (not-suc-le-zero h);
-    place = λ i h. ap (λ (e : Entry). e.place) (get_or-replicate 256 i (entry (joined 0 0) (length words)) (entry (joined 0 0) 0) h);
+    place = λ i h. ap (λ (e : Entry). e.place) (get_or-replicate 256 i (entry t (length words)) (entry (joined 0 0) 0) h);
   }
 
   pub told_more : (i : ℕ) (entries : List Entry) (t : Touch) → i < length words → length words ≤ 256 → Told s words i entries → is_read s (get_or words i 0) ≡ true → t ≡ touch_of s (get_or words i 0)

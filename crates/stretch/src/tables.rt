@@ -22,7 +22,7 @@ pub(crate) fn unplaced(setting: Setting, words: &[u32]) -> Result<[Entry; 256], 
     ensures { MatchResult result (Told setting words.now (length words.now)) (UnreadIn setting words.now) }
 {
     let mut entries = [Entry {
-        touch: Touch::NONE,
+        touch: Touch::default(),
         place: words.len(),
     }; 256];
     for (i, word) in words.iter().enumerate() {

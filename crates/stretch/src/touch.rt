@@ -5,6 +5,7 @@ ghost use Rattle.machine.specs.Effects.{effect_of};
 ghost use Rattle.stretch.specs.declared.touch.Register.TheVariants.{Vector};
 ghost use Rattle.stretch.specs.Private.{IsThere, AllThere, register_as, register_bit, bits_of, touch_by, reading_as, reading_of, clashes};
 
+use self::Register::{Index, Predicate, Table, Vector};
 use encoding::{Decoded, Instruction};
 use setting::{Answer, Setting};
 
@@ -24,10 +25,10 @@ impl Register {
         ensures { result ≡ register_bit (register_as self) }
     {
         let place = match self {
-            Register::Vector(k) => k,
-            Register::Predicate(k) => 32 + k,
-            Register::Table => 48,
-            Register::Index(k) => 37 + k,
+            Vector(k) => k,
+            Predicate(k) => 32 + k,
+            Table => 48,
+            Index(k) => 37 + k,
         };
         1 << place
     }
@@ -46,7 +47,7 @@ fn bits(registers: &[Register]) -> u64
 }
 
 // The registers that a word writes, and all that it reads or writes.
-#[derive(Clone, Copy)]
+#[derive(Clone, Copy, Default)]
 pub(crate) struct Touch {
     writes: u64,
     touched: u64,
@@ -58,10 +59,10 @@ fn four_vectors(first: u32, gap: u32) -> [Register; 4]
     ensures { result ≡ Vector first ∷ Vector (first + gap) ∷ Vector (first + 2 * gap) ∷ Vector (first + 3 * gap) ∷ [] }
 {
     [
-        Register::Vector(first),
-        Register::Vector(first + gap),
-        Register::Vector(first + 2 * gap),
-        Register::Vector(first + 3 * gap),
+        Vector(first),
+        Vector(first + gap),
+        Vector(first + 2 * gap),
+        Vector(first + 3 * gap),
     ]
 }
 
@@ -77,12 +78,12 @@ fn touch_of(instruction: Instruction) -> Touch
             pd,
             ..
         } => Touch::new(
-            &[Register::Predicate(counter)],
-            &[Register::Predicate(pd), Register::Predicate((pd + 1) % 16)],
+            &[Predicate(counter)],
+            &[Predicate(pd), Predicate((pd + 1) % 16)],
         ),
         Instruction::Pext { counter, pd, .. } => Touch::new(
-            &[Register::Predicate(counter)],
-            &[Register::Predicate(pd)],
+            &[Predicate(counter)],
+            &[Predicate(pd)],
         ),
         Instruction::Psel {
             index,
@@ -91,19 +92,15 @@ fn touch_of(instruction: Instruction) -> Touch
             pd,
             ..
         } => Touch::new(
-            &[
-                Register::Predicate(pn),
-                Register::Predicate(pm),
-                Register::Index(index),
-            ],
-            &[Register::Predicate(pd)],
+            &[Predicate(pn), Predicate(pm), Index(index)],
+            &[Predicate(pd)],
         ),
         Instruction::Luti4c { zn, zd, .. } => Touch::new(
-            &[Register::Vector(zn), Register::Table],
+            &[Vector(zn), Table],
             &four_vectors(zd, 1),
         ),
         Instruction::Luti4s { zn, zd, .. } => Touch::new(
-            &[Register::Vector(zn), Register::Table],
+            &[Vector(zn), Table],
             &four_vectors(zd, 4),
         ),
         Instruction::Narrow {
@@ -111,23 +108,12 @@ fn touch_of(instruction: Instruction) -> Touch
             zn,
             zd,
             ..
-        } => Touch::new(
-            &[Register::Vector(zn), Register::Vector(zd)],
-            &[Register::Vector(zd)],
-        ),
-        Instruction::Narrow { zn, zd, .. } => Touch::new(
-            &[Register::Vector(zn)],
-            &[Register::Vector(zd)],
-        ),
+        } => Touch::new(&[Vector(zn), Vector(zd)], &[Vector(zd)]),
+        Instruction::Narrow { zn, zd, .. } => Touch::new(&[Vector(zn)], &[Vector(zd)]),
     }
 }
 
 impl Touch {
-    pub(crate) const NONE: Touch = Touch {
-        writes: 0,
-        touched: 0,
-    };
-
     // What a word touches under a setting.
     pub(crate) fn read(setting: Setting, word: u32) -> Result<Touch, Answer>
         ensures { reading_as result ≡ reading_of setting word }

@@ -8,7 +8,7 @@ use Rattle.stretch.proofs.Entries.{told_none}
 use Rattle.stretch.proofs.tables.unplaced.Goals as goal
 
 pub loop-i-init : goal.loop-i-init
-loop-i-init c = told_none c.args.setting c.args.words.now
+loop-i-init c = told_none c.args.setting c.args.words.now c.default.result
 
 pub returns-in_err-entries : goal.returns-in_err-entries
 returns-in_err-entries c =
