@@ -9,18 +9,13 @@ pub fn number(reply: Reply) -> u32
     ensures { result ≡ number_in (reply_as reply) }
 {
     match reply {
-        Reply::Yes => 0,
-        Reply::No => 0,
-        Reply::Refused(answer) => setting::number(answer),
+        Ok(_) => 0,
+        Err(answer) => setting::number(answer),
     }
 }
 
 pub fn yes(reply: Reply) -> u32
     ensures { result ≡ yes_in (reply_as reply) }
 {
-    match reply {
-        Reply::Yes => 1,
-        Reply::No => 0,
-        Reply::Refused(answer) => 0,
-    }
+    u32::from(reply.unwrap_or(false))
 }
