@@ -4,9 +4,9 @@ use mathlib.Core.Path.{◌≡◌, refl, sym, ◌∙◌, ap}
 use mathlib.Core.Bool.{Bool, true, false}
 use mathlib.Core.List.{List, [], ◌∷◌}
 use Prim.Native.Nat.{ℕ}
-use Rattle.setting.specs.Numbers.{Outcome, accept, refuse, number_of}
+use Rattle.setting.specs.Numbers.{Outcome, accept, refuse, refusal_number}
 use Rattle.setting.specs.declared.Setting.{Setting}
-use Rattle.setting.specs.declared.Answer.{Answer}
+use Rattle.setting.specs.declared.Refusal.{Refusal}
 use Rattle.setting.specs.Allowed.{allowed_of}
 use Rattle.logic.specs.Pick.{pick}
 use Rattle.encoding.specs.Layout.{fields_of}
@@ -50,11 +50,11 @@ not_read : (d : Outcome Instruction) (n : ℕ) → touch_in d ≡ refuse n → o
 not_read (accept i) n e = cc
 not_read (refuse m) n e = refl
 
-module _ (s : Setting) (w : ℕ) {r : Result Touch Answer} (e : reading_as r ≡ reading_of s w) where
+module _ (s : Setting) (w : ℕ) {r : Result Touch Refusal} (e : reading_as r ≡ reading_of s w) where
   touching : {t : Touch} → r ≡ Ok t → reading_of s w ≡ accept t
   touching k = sym e ∙ ap reading_as k
 
-  unread : {a : Answer} → r ≡ Err a → reading_of s w ≡ refuse (number_of a)
+  unread : {a : Refusal} → r ≡ Err a → reading_of s w ≡ refuse (refusal_number a)
   unread k = sym e ∙ ap reading_as k
 
   pub touch_is : {t : Touch} → r ≡ Ok t → t ≡ touch_of s w
@@ -63,11 +63,11 @@ module _ (s : Setting) (w : ℕ) {r : Result Touch Answer} (e : reading_as r ≡
   pub is_read_lem : {t : Touch} → r ≡ Ok t → is_read s w ≡ true
   is_read_lem {t} k = one_read (decode_of s w) t (touching k)
 
-  pub is_unread : {a : Answer} → r ≡ Err a → is_read s w ≡ false
-  is_unread {a} k = not_read (decode_of s w) (number_of a) (unread k)
+  pub is_unread : {a : Refusal} → r ≡ Err a → is_read s w ≡ false
+  is_unread {a} k = not_read (decode_of s w) (refusal_number a) (unread k)
 
-  pub undefined : {a : Answer} → allowed_of s ≡ true → r ≡ Err a → number_of a ≡ 3
-  undefined {a} h k = first_undefined rows s.features w (number_of a) (sym (read_first s w h) ∙ refused_as (decode_of s w) (number_of a) (unread k))
+  pub undefined : {a : Refusal} → allowed_of s ≡ true → r ≡ Err a → refusal_number a ≡ 3
+  undefined {a} h k = first_undefined rows s.features w (refusal_number a) (sym (read_first s w h) ∙ refused_as (decode_of s w) (refusal_number a) (unread k))
 
 -- ---- two words
 if_refused : (d : Outcome Instruction) (n : ℕ) (o : Outcome Bool) → touch_in d ≡ refuse n → refuse n ≡ if_read d o
@@ -78,15 +78,15 @@ if_touches : (d : Outcome Instruction) (t : Touch) (o : Outcome Bool) → touch_
 if_touches (accept i) t o e = refl
 if_touches (refuse m) t o e = cc
 
-module _ (s : Setting) (v w : ℕ) {r : Result Touch Answer} (e : reading_as r ≡ reading_of s v) where
-  pub first_refused : {a : Answer} → r ≡ Err a → refuse (number_of a) ≡ conflict_of s v w
+module _ (s : Setting) (v w : ℕ) {r : Result Touch Refusal} (e : reading_as r ≡ reading_of s v) where
+  pub first_refused : {a : Refusal} → r ≡ Err a → refuse (refusal_number a) ≡ conflict_of s v w
   unfolding conflict_of
-  first_refused {a} k = if_refused (decode_of s v) (number_of a) _ (unread s v e k)
+  first_refused {a} k = if_refused (decode_of s v) (refusal_number a) _ (unread s v e k)
 
-  module _ {t : Touch} (k : r ≡ Ok t) {q : Result Touch Answer} (f : reading_as q ≡ reading_of s w) where
-    pub second_refused : {a : Answer} → q ≡ Err a → refuse (number_of a) ≡ conflict_of s v w
+  module _ {t : Touch} (k : r ≡ Ok t) {q : Result Touch Refusal} (f : reading_as q ≡ reading_of s w) where
+    pub second_refused : {a : Refusal} → q ≡ Err a → refuse (refusal_number a) ≡ conflict_of s v w
     unfolding conflict_of
-    second_refused {a} l = if_refused (decode_of s w) (number_of a) _ (unread s w f l) ∙ if_touches (decode_of s v) t _ (touching s v e k)
+    second_refused {a} l = if_refused (decode_of s w) (refusal_number a) _ (unread s w f l) ∙ if_touches (decode_of s v) t _ (touching s v e k)
 
     pub both_read : {u : Touch} {b : Bool} → q ≡ Ok u → b ≡ clashes t u → accept b ≡ conflict_of s v w
     unfolding conflict_of

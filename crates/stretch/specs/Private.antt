@@ -3,9 +3,9 @@ use Rattle.std.specs.Prelude.{◌≡◌, Bool, true, false, not, ◌&&◌, ◌||
 use Rattle.std.specs.List.{list_all}
 use Rattle.std.specs.Int.Bits.{bit_or}
 use Rattle.element.specs.Private.{shares}
-use Rattle.setting.specs.Numbers.{Outcome, accept, refuse, number_of}
+use Rattle.setting.specs.Numbers.{Outcome, accept, refuse, refusal_number}
 use Rattle.setting.specs.declared.Setting.{Setting}
-use Rattle.setting.specs.declared.Answer.{Answer}
+use Rattle.setting.specs.declared.Refusal.{Refusal}
 use Rattle.order.specs.Banks.{Register}
 use Rattle.order.specs.Rearranged.{place}
 use Rattle.machine.specs.Machine.{Z, P, ZT0, W}
@@ -69,9 +69,9 @@ touch_in (refuse n) = refuse n
 abbrev pub reading_of : Setting → ℕ → Outcome Touch
 reading_of s w = touch_in (decode_of s w)
 
-abbrev pub reading_as : Result Touch Answer → Outcome Touch
+abbrev pub reading_as : Result Touch Refusal → Outcome Touch
 reading_as (Ok t) = accept t
-reading_as (Err a) = refuse (number_of a)
+reading_as (Err a) = refuse (refusal_number a)
 
 -- one writes a register that the other reads or writes
 abbrev pub clashes : Touch → Touch → Bool
@@ -93,8 +93,8 @@ pub record Told (s : Setting) (words : List ℕ) (n : ℕ) (entries : List Entry
   pub place : (i : ℕ) → i < 256 → (entry_at entries i).place ≡ length words
 
 -- a word is refused as undefined
-pub record UnreadIn (s : Setting) (words : List ℕ) (a : Answer) : Type 0 where
-  pub number : number_of a ≡ 3
+pub record UnreadIn (s : Setting) (words : List ℕ) (a : Refusal) : Type 0 where
+  pub number : refusal_number a ≡ 3
   pub unread : all_read s words ≡ false
 
 -- each entry has this number for its place

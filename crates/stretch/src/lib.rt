@@ -10,11 +10,11 @@ ghost use Rattle.stretch.specs.Conflict.{conflict_of, reply_as};
 ghost use Rattle.stretch.specs.Permission.{permitted_of};
 ghost use Rattle.stretch.specs.Claims.{Claims};
 
-use setting::{Answer, Setting};
+use setting::{Refusal, Setting};
 use touch::Touch;
 
 // What a question about words answers: yes or no, or a refusal. `reply_as` has the number and value of each.
-pub type Reply = Result<bool, Answer>;
+pub type Reply = Result<bool, Refusal>;
 
 // Whether two words conflict under a setting.
 pub fn conflict(setting: Setting, first: u32, second: u32) -> Reply
@@ -30,11 +30,11 @@ pub fn permitted(setting: Setting, words: &[u32], order: &[u32]) -> Reply
     ensures { reply_as result ≡ permitted_of setting words.now order.now }
 {
     if !setting::allowed(setting) {
-        return Err(Answer::NotAllowed);
+        return Err(Refusal::NotAllowed);
     }
     let n = words.len();
     if n > 256 {
-        return Err(Answer::TooManyWords);
+        return Err(Refusal::TooManyWords);
     }
     let mut table = tables::unplaced(setting, words)?;
     if order.len() != n {

@@ -6,7 +6,7 @@ ghost use Rattle.logic.specs.Every.{all};
 ghost use Rattle.stretch.specs.Private.{Told, Unplaced, Placed, UnreadIn, keeps_entry, stands_at};
 
 use crate::touch::Touch;
-use setting::{Answer, Setting};
+use setting::{Refusal, Setting};
 
 // A word of the stretch: what it touches, and its place in the order.
 #[derive(Clone, Copy)]
@@ -16,7 +16,7 @@ pub(crate) struct Entry {
 }
 
 // The words as entries. None is placed: each has the number of words for its place, as one that an order does not list.
-pub(crate) fn unplaced(setting: Setting, words: &[u32]) -> Result<[Entry; 256], Answer>
+pub(crate) fn unplaced(setting: Setting, words: &[u32]) -> Result<[Entry; 256], Refusal>
     requires allowed { allowed_of setting ≡ true }
     requires few { length words.now ≤ 256 }
     ensures { MatchResult result (Told setting words.now (length words.now)) (UnreadIn setting words.now) }

@@ -6,8 +6,8 @@ ghost use Rattle.stretch.specs.declared.touch.Register.TheVariants.{Vector};
 ghost use Rattle.stretch.specs.Private.{IsThere, AllThere, register_as, register_bit, bits_of, touch_by, reading_as, reading_of, clashes};
 
 use self::Register::{Index, Predicate, Table, Vector};
-use encoding::{Decoded, Instruction};
-use setting::{Answer, Setting};
+use encoding::Instruction;
+use setting::{Refusal, Setting};
 
 // A register that a word may touch: Z0 to Z31, P0 to P15, ZT0, W12 to W15.
 #[derive(Clone, Copy)]
@@ -115,13 +115,10 @@ fn touch_of(instruction: Instruction) -> Touch
 
 impl Touch {
     // What a word touches under a setting.
-    pub(crate) fn read(setting: Setting, word: u32) -> Result<Touch, Answer>
+    pub(crate) fn read(setting: Setting, word: u32) -> Result<Touch, Refusal>
         ensures { reading_as result ≡ reading_of setting word }
     {
-        match decoder::decode(setting, word) {
-            Decoded::Fields(instruction) => Ok(touch_of(instruction)),
-            Decoded::Refused(answer) => Err(answer),
-        }
+        Ok(touch_of(decoder::decode(setting, word)?))
     }
 
     fn new(reads: &[Register], writes: &[Register]) -> Touch
