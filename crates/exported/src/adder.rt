@@ -1,22 +1,22 @@
 // PSEL's index unit as numbers: document 01's, and the unit's three in what is lent.
 ghost use Rattle.std.specs.Prelude.{◌≡◌, MatchResult};
-ghost use Rattle.setting.specs.Numbers.{number_of};
+ghost use Rattle.setting.specs.Numbers.{refusal_number};
 ghost use Rattle.index.specs.Index.{no_unit};
 ghost use Rattle.exported.specs.Index.{indexed, indexed_of, indexed_as};
 
 use index::IndexUnit;
-use setting::Answer;
+use setting::Refusal;
 
-fn unit(vl: u32, size: u32, offset: u32, w: u32) -> Result<IndexUnit, Answer>
+fn unit(vl: u32, size: u32, offset: u32, w: u32) -> Result<IndexUnit, Refusal>
     ensures { MatchResult result
         (λ unit. indexed 0 unit ≡ indexed_of vl size offset w)
-        (λ a. indexed (number_of a) no_unit ≡ indexed_of vl size offset w) }
+        (λ refusal. indexed (refusal_number refusal) no_unit ≡ indexed_of vl size offset w) }
 {
     if !setting::length_allowed(vl) {
-        return Err(Answer::NotAllowed);
+        return Err(Refusal::NotAllowed);
     }
     if !encoder::ranges::psel_offset(size, offset) {
-        return Err(Answer::OutOfRange);
+        return Err(Refusal::OutOfRange);
     }
     Ok(index::unit(vl, element::log_of(size), w, offset))
 }
@@ -35,8 +35,8 @@ pub fn index(
 {
     let (number, unit) = match unit(vl, size, offset, w) {
         Ok(unit) => (0, unit),
-        Err(answer) => (
-            setting::number(answer),
+        Err(refusal) => (
+            u32::from(refusal),
             IndexUnit {
                 sum: 0,
                 mask: 0,

@@ -10,7 +10,7 @@ pub fn number(reply: Reply) -> u32
 {
     match reply {
         Ok(_) => 0,
-        Err(answer) => setting::number(answer),
+        Err(refusal) => u32::from(refusal),
     }
 }
 
