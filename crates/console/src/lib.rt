@@ -38,7 +38,8 @@ const PREDICATES: Bank = Bank {
 };
 
 impl Bank {
-    // A register's bytes, a part of the file; empty for a VL that is not allowed, a register number too high, or a file of another length.
+    // A register's bytes, a part of the file; empty for a VL that is not allowed, a register number too high, or a file of another length:
+    // no Option, since document 01 has the part empty (`part_of`).
     fn part<'a>(self, file: &'a [u8], vl: u32, register: u32) -> &'a [u8]
         ensures { result.now ≡ part_of self.length self.registers self.gap (vl / self.bits) vl register file.now }
     {

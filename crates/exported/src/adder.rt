@@ -22,6 +22,7 @@ fn unit(vl: u32, size: u32, offset: u32, w: u32) -> Result<IndexUnit, Refusal>
 }
 
 // The adder's sum, the mask and the index that PSEL has for a W, and a number. A refused question has 0 for each of the three.
+// As C gets them (`gighull_psel_index`, `indexed_as`): so no Result.
 pub fn index(
     vl: u32,
     size: u32,

@@ -46,7 +46,7 @@ pub fn written(setting: Setting, fields: &[u32]) -> Result<u32, Refusal>
     encoder::encode(setting, numbers::instruction(fields)?)
 }
 
-// A part into a buffer that has room for it.
+// A part into a buffer that has room for it, and its length; nothing into another, and 0, as C is told (`gighull_vector`): so no Option.
 pub fn copied(part: &[u8], out: &mut [u8]) -> usize
     ensures { Wrote (fitting part.now out.old) out.old out.new result }
 {

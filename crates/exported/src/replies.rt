@@ -1,4 +1,4 @@
-// A reply as two numbers: document 01's, and 1 for yes.
+// A reply as the two numbers that cross the C interface (`gighull_conflict`, `gighull_permitted`): document 01's, and 1 for yes.
 ghost use Rattle.std.specs.Prelude.{◌≡◌};
 ghost use Rattle.stretch.specs.Conflict.{reply_as};
 ghost use Rattle.exported.specs.Numbers.{number_in, yes_in};

@@ -1,5 +1,5 @@
 // The C interface: numbers, slices (a pointer, then a length) and the scalar record cross it. include/gighull.h declares it for C.
-// A function answers document 01's number, and leaves its values in what is lent to it.
+// A function answers document 01's number, and leaves its values in what is lent to it: C has no Result, and its names and types stay.
 #![tactic(auto)]
 
 ghost use Rattle.std.specs.Prelude.{◌≡◌};

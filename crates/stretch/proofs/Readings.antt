@@ -42,10 +42,6 @@ touch_in_lem : (d : Outcome Instruction) (t : Touch) → touch_in d ≡ accept t
 touch_in_lem (accept i) t e = cc
 touch_in_lem (refuse n) t e = cc
 
-one_read : (d : Outcome Instruction) (t : Touch) → touch_in d ≡ accept t → over_word false (λ i. true) d ≡ true
-one_read (accept i) t e = refl
-one_read (refuse n) t e = cc
-
 not_read : (d : Outcome Instruction) (n : ℕ) → touch_in d ≡ refuse n → over_word false (λ i. true) d ≡ false
 not_read (accept i) n e = cc
 not_read (refuse m) n e = refl
@@ -59,9 +55,6 @@ module _ (s : Setting) (w : ℕ) {r : Result Touch Refusal} (e : reading_as r �
 
   pub touch_is : {t : Touch} → r ≡ Ok t → t ≡ touch_of s w
   touch_is {t} k = touch_in_lem (decode_of s w) t (touching k)
-
-  pub is_read_lem : {t : Touch} → r ≡ Ok t → is_read s w ≡ true
-  is_read_lem {t} k = one_read (decode_of s w) t (touching k)
 
   pub is_unread : {a : Refusal} → r ≡ Err a → is_read s w ≡ false
   is_unread {a} k = not_read (decode_of s w) (refusal_number a) (unread k)
