@@ -1,33 +1,38 @@
--- What a register request gives in each case, over any slots: the code's test is the definition's, and what is lent of a slot is the slot.
-use mathlib.Core.Path.{◌≡◌}
-use mathlib.Core.Bool.{true, false, ◌&&◌}
-use mathlib.Core.List.{List, []}
-use Prim.Native.Nat.{ℕ, ◌+◌, ◌-◌, ◌*◌, ◌≤◌}
-use native.Mathlib.Nat.{mul-le-mul_left, mul-add, mul_comm}
-use native.Mathlib.Omega.{arith}
-use lib.Dec.{eqb, ltb}
-use lib.ListN.{length, take, drop}
-use borrow.Author.Tests.{ltb-true, eqb-true}
+-- What a register request gives in each case, over any slots: nothing where a test refuses it, and what is lent of a slot is the slot.
+use Rattle.std.proofs.Common.{◌≡◌, true, false, ◌&&◌, ℕ, ◌+◌, ◌-◌, ◌*◌, ◌/◌, ◌≤◌, ◌<◌, List, [], length, take, drop, arith}
+use Rattle.std.proofs.Math.Nat.{mul-le-mul_left, mul-add, mul_comm, div-le_of_le-mul}
+use mathlib.Core.Bool.{and-false}
+use lib.Dec.{ltb}
+use borrow.Author.Tests.{le-ltb, lt-ltb, eq-eqb, ne_eqb}
 use Rattle.setting.specs.Allowed.{length_allowed}
-use Rattle.element.proofs.Tests.{both_yes}
 use Rattle.element.proofs.Slots.{slot_part}
 use Rattle.counter.proofs.Lengths.{length_is}
 use Rattle.console.specs.Parts.{part_of}
 
--- a slot that has room for n bytes at every VL allowed lies in the file, which is its slots
-pub inside : (whole slots size n vl k l : ℕ) → whole ≡ slots * size → (length_allowed vl && ltb k slots && eqb l whole) ≡ true → (vl ≤ 2048 → n ≤ size) → size * k + n ≤ l
-inside whole slots size n vl k l e h room =
-    let a = both_yes (length_allowed vl && ltb k slots) (eqb l whole) h in
-    let b = both_yes (length_allowed vl) (ltb k slots) a.0 in
-    let below = ltb-true k slots b.1 in
-    let next : size * (k + 1) ≤ size * slots = mul-le-mul_left size (omega (arith, below)) in
-    omega (arith, room (length_is vl b.0).most, next, mul-add size k 1, mul_comm slots size, e, eqb-true l whole a.1)
-
 module _ (whole slots size n vl k : ℕ) (file : List ℕ) where
-  pub refused_part : (length_allowed vl && ltb k slots && eqb (length file) whole) ≡ false → [] ≡ part_of whole slots size n vl k file
+  pub unallowed : length_allowed vl ≡ false → [] ≡ part_of whole slots size n vl k file
   unfolding part_of
-  refused_part h = rw h
+  unallowed h = rw h
 
-  pub given_part : whole ≡ slots * size → (length_allowed vl && ltb k slots && eqb (length file) whole) ≡ true → (vl ≤ 2048 → n ≤ size) → take (size * k + n - size * k) (drop (size * k) file) ≡ part_of whole slots size n vl k file
+  pub too_high : slots ≤ k → [] ≡ part_of whole slots size n vl k file
   unfolding part_of
-  given_part e h room = rw h (slot_part size n k file (inside whole slots size n vl k (length file) e h room))
+  too_high h = rw (le-ltb k slots h, and-false (length_allowed vl))
+
+  pub other_length : (length file ≡ whole → ⊥) → [] ≡ part_of whole slots size n vl k file
+  unfolding part_of
+  other_length h = rw (ne_eqb (length file) whole h, and-false (length_allowed vl && ltb k slots))
+
+  module _ (a : length_allowed vl ≡ true) (below : k < slots) (e : length file ≡ whole) (w : whole ≡ slots * size) (room : n ≤ size) where
+    -- a slot that has room for n bytes lies in the file, which is its slots
+    inside : size * k + n ≤ length file
+    inside =
+        let next : size * (k + 1) ≤ size * slots = mul-le-mul_left size (omega arith) in
+        omega (arith, next, mul-add size k 1, mul_comm slots size)
+
+    pub given_part : take (size * k + n - size * k) (drop (size * k) file) ≡ part_of whole slots size n vl k file
+    unfolding part_of
+    given_part = rw (a, lt-ltb k slots below, eq-eqb (length file) whole e) (slot_part size n k file inside)
+
+-- a byte for each `bits` bits of an allowed VL has room, where one for each of 2048 has
+pub has_room : (vl bits size : ℕ) → length_allowed vl ≡ true → 0 < bits → 2048 ≤ size * bits → vl / bits ≤ size
+has_room vl bits size a some h = div-le_of_le-mul bits (omega (arith, (length_is vl a).most, mul_comm size bits))

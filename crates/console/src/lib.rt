@@ -1,45 +1,68 @@
 // What a lesson console asks of the machine: a register's bytes, and one step on the scalar record that it lends.
 #![tactic(auto)]
 
-ghost use Rattle.std.specs.Prelude.{◌≡◌, ◌&&◌, eqb, ltb};
-ghost use Rattle.setting.specs.Allowed.{length_allowed};
+ghost use Rattle.std.specs.Prelude.{◌≡◌, ◌*◌, ◌/◌, ◌<◌, ◌≤◌};
 ghost use Rattle.setting.specs.Numbers.{number_of};
 ghost use Rattle.machine.specs.Machine.{machine};
 ghost use Rattle.machine.specs.Step.{step_of, step_as, stepped_as};
-ghost use Rattle.console.specs.Parts.{vector_of, predicate_of};
+ghost use Rattle.console.specs.Parts.{part_of, vector_of, predicate_of};
 
 use machine::{Scalars, Stepped};
 use setting::{Answer, Setting};
 
-// Whether VL is allowed, the register is one of so many, and the file has its length.
-fn answered(vl: u32, register: u32, registers: u32, length: usize, whole: usize) -> bool
-    ensures { result ≡ (length_allowed vl && ltb register registers && eqb length whole) }
-{
-    setting::length_allowed(vl) & (register < registers) & (length == whole)
+// A file of registers: its length, how many there are, how many bytes apart, and the bits of VL for each byte of one. What is between
+// two starts has room for a register at the greatest VL, which is 2048.
+#[derive(Clone, Copy)]
+struct Bank {
+    length: usize,
+    registers: u32,
+    gap: usize,
+    bits: usize,
+    ghost whole: { length ≡ registers * gap },
+    ghost some: { 0 < bits },
+    ghost room: { 2048 ≤ gap * bits },
+}
+
+const VECTORS: Bank = Bank {
+    length: element::VECTOR_FILE,
+    registers: 32,
+    gap: 256,
+    bits: 8,
+};
+
+const PREDICATES: Bank = Bank {
+    length: element::PREDICATE_FILE,
+    registers: 16,
+    gap: 32,
+    bits: 64,
+};
+
+impl Bank {
+    // A register's bytes, a part of the file; empty for a VL that is not allowed, a register number too high, or a file of another length:
+    // no Option, since document 01 has the part empty (`part_of`).
+    fn part<'a>(self, file: &'a [u8], vl: u32, register: u32) -> &'a [u8]
+        ensures { result.now ≡ part_of self.length self.registers self.gap (vl / self.bits) vl register file.now }
+    {
+        if !setting::length_allowed(vl) || register >= self.registers || file.len() != self.length {
+            return &file[..0];
+        }
+        let at = self.gap * (register as usize);
+        &file[at..at + (vl as usize) / self.bits]
+    }
 }
 
 // The VL/8 bytes of a Z register, a part of the vector file; empty on refusal.
 pub fn vector<'a>(file: &'a [u8], vl: u32, register: u32) -> &'a [u8]
     ensures { result.now ≡ vector_of file.now vl register }
 {
-    if !answered(vl, register, 32, file.len(), element::VECTOR_FILE) {
-        return &file[..0];
-    }
-    let at = 256 * (register as usize);
-    let end = at + (vl as usize) / 8;
-    &file[at..end]
+    VECTORS.part(file, vl, register)
 }
 
 // The PL/8 bytes of a P register, a part of the predicate file; empty on refusal.
 pub fn predicate<'a>(file: &'a [u8], vl: u32, register: u32) -> &'a [u8]
     ensures { result.now ≡ predicate_of file.now vl register }
 {
-    if !answered(vl, register, 16, file.len(), element::PREDICATE_FILE) {
-        return &file[..0];
-    }
-    let at = 32 * (register as usize);
-    let end = at + (vl as usize) / 64;
-    &file[at..end]
+    PREDICATES.part(file, vl, register)
 }
 
 // One word. The record is lent, and advanced where it stands: of the scalars a step moves PC alone.

@@ -1,4 +1,4 @@
-// A reply as two numbers: document 01's, and 1 for yes.
+// A reply as the two numbers that cross the C interface (`gighull_conflict`, `gighull_permitted`): document 01's, and 1 for yes.
 ghost use Rattle.std.specs.Prelude.{◌≡◌};
 ghost use Rattle.stretch.specs.Conflict.{reply_as};
 ghost use Rattle.exported.specs.Numbers.{number_in, yes_in};
@@ -9,18 +9,13 @@ pub fn number(reply: Reply) -> u32
     ensures { result ≡ number_in (reply_as reply) }
 {
     match reply {
-        Reply::Yes => 0,
-        Reply::No => 0,
-        Reply::Refused(answer) => setting::number(answer),
+        Ok(_) => 0,
+        Err(refusal) => u32::from(refusal),
     }
 }
 
 pub fn yes(reply: Reply) -> u32
     ensures { result ≡ yes_in (reply_as reply) }
 {
-    match reply {
-        Reply::Yes => 1,
-        Reply::No => 0,
-        Reply::Refused(answer) => 0,
-    }
+    u32::from(reply.unwrap_or(false))
 }

@@ -1,5 +1,5 @@
 // The C interface: numbers, slices (a pointer, then a length) and the scalar record cross it. include/gighull.h declares it for C.
-// A function answers document 01's number, and leaves its values in what is lent to it.
+// A function answers document 01's number, and leaves its values in what is lent to it: C has no Result, and its names and types stay.
 #![tactic(auto)]
 
 ghost use Rattle.std.specs.Prelude.{◌≡◌};
@@ -127,15 +127,21 @@ pub extern "C" fn gighull_decode(vl: u32, features: u32, word: u32, fields: &mut
     exported::read(decoder::decode(Setting { vl, features }, word), fields)
 }
 
-// The word that seven numbers are written as.
+// The word that seven numbers are written as; 0 where it is refused.
 #[unsafe(no_mangle)]
 pub extern "C" fn gighull_encode(vl: u32, features: u32, fields: &[u32], word: &mut u32) -> u32
     ensures { written_as result word.new ≡ write_of (setting_of vl features) fields.now }
 {
-    let encoded = exported::written(Setting { vl, features }, fields);
-    let answer = encoded.answer;
-    *word = encoded.word;
-    setting::number(answer)
+    match exported::written(Setting { vl, features }, fields) {
+        Ok(written) => {
+            *word = written;
+            0
+        }
+        Err(refusal) => {
+            *word = 0;
+            u32::from(refusal)
+        }
+    }
 }
 
 // PSEL's index unit: the adder's sum, the mask, and the index.

@@ -7,8 +7,7 @@ pub mod Known
 pub mod Clashes
 pub mod TouchBits
 pub mod Readings
-pub mod Turns
+pub mod Entries
 pub mod Places
-pub mod Tabled
 pub mod Listed
 pub mod Permitting

@@ -1,11 +1,15 @@
 -- What a permission answers in each case that the code meets: a refusal, no for another length, or the test over the tables, which is the definitions' test position by position.
-use mathlib.Core.Path.{◌≡◌, refl, ◌∙◌, ap, ap₂}
-use mathlib.Core.Bool.{Bool, true, false, not, ◌&&◌, ◌||◌}
+use mathlib.Core.Path.{◌≡◌, refl, sym, ◌∙◌, ap, ap₂}
+use mathlib.Core.Bool.{Bool, true, false, not, ◌&&◌, ◌||◌, and_comm}
 use mathlib.Core.List.{List}
 use Prim.Native.Nat.{ℕ, zero, suc, ◌≤◌, ◌<◌}
 use native.Mathlib.Omega.{arith}
 use lib.Dec.{ltb}
-use lib.ListN.{length, get_or}
+use Rattle.std.proofs.lemmas.List.{get_or-take, length-take-le}
+use lib.ListN.{length, get_or, take}
+use Rattle.std.specs.List.{list_all}
+use Rattle.std.proofs.lemmas.List.Folds.{list_all_more}
+use native.Mathlib.Numerals.{add-one}
 use borrow.Author.Tests.{le-leb, lt-leb, ne_eqb}
 use Rattle.setting.specs.Allowed.{allowed_of}
 use Rattle.setting.specs.Numbers.{accept, refuse}
@@ -15,7 +19,9 @@ use Rattle.logic.specs.Every.{all}
 use Rattle.order.specs.Tested.{keeps, rearranges, permits}
 use Rattle.stretch.specs.Conflict.{conflict}
 use Rattle.stretch.specs.Permission.{all_read, permitted_by, permitted_of}
-use Rattle.stretch.specs.Private.{touch_of, clashes, touch_at, keeps_at, stands_at}
+use Rattle.stretch.specs.declared.tables.Entry.{Entry}
+use Rattle.stretch.specs.declared.touch.Touch.{Touch}
+use Rattle.stretch.specs.Private.{touch_of, entry, entry_at, Told, Unplaced, Placed, keeps_entry, stands_at}
 use Rattle.stretch.proofs.Clashes.{clash_is_conflict}
 use Rattle.stretch.proofs.Listed.{listed_rearranges}
 
@@ -34,27 +40,54 @@ all_both : (f g : ℕ → Bool) (n : ℕ) → all (λ i. f i && g i) n ≡ (all 
 all_both f g zero = refl
 all_both f g (suc n) = ap (λ (b : Bool). (f n && g n) && b) (all_both f g n) ∙ and_exchange (f n) (g n) (all f n) (all g n)
 
--- ---- the test over the tables
-module _ (s : Setting) (words order writes touched table : List ℕ)
-    (same : length order ≡ length words) (few : length words ≤ 256)
-    (touch : (i : ℕ) → i < length words → touch_at writes touched i ≡ touch_of s (get_or words i 0))
-    (places : (i : ℕ) → i < 256 → get_or table i 0 ≡ place i order) where
-  keeps_same : (i j : ℕ) → i < length words → j < length words → keeps_at writes touched table i j ≡ keeps (conflict s) words order i j
-  keeps_same i j h l =
-      ap₂ (λ (a b : Bool). not a || b)
-      (ap₂ clashes (touch i h) (touch j l) ∙ clash_is_conflict s (get_or words i 0) (get_or words j 0))
-      (ap₂ ltb (places i (omega arith)) (places j (omega arith)))
+-- every entry in front of j passes the test
+list_all_below : (p : Entry → Bool) (entries : List Entry) (j : ℕ) → j ≤ length entries → list_all p (take j entries) ≡ all (λ i. p (entry_at entries i)) j
+list_all_below p entries zero h = refl
+list_all_below p entries (suc j) h =
+    let more : list_all p (take (suc j) entries) ≡ (list_all p (take j entries) && p (entry_at entries j)) = rw (← add-one j) (list_all_more p entries j _ h) in
+    more ∙ and_comm (list_all p (take j entries)) (p (entry_at entries j)) ∙ ap (λ (b : Bool). p (entry_at entries j) && b) (list_all_below p entries j (omega arith))
 
-  pub stands_permitted : {b : Bool} → b ≡ all (stands_at writes touched table (length words)) (length words) → b ≡ permitted_by s words order
+-- ---- the test over the entries
+module _ (s : Setting) (words order : List ℕ) (entries : List Entry)
+    (same : length order ≡ length words) (long : length entries ≡ length words)
+    (each : (i : ℕ) → i < length words → entry_at entries i ≡ entry (touch_of s (get_or words i 0)) (place i order)) where
+  keeps_same : (i j : ℕ) → i < length words → j < length words → keeps_entry (entry_at entries i) (entry_at entries j) ≡ keeps (conflict s) words order i j
+  keeps_same i j h l =
+      ap₂ keeps_entry (each i h) (each j l)
+      ∙ ap (λ (a : Bool). not a || ltb (place i order) (place j order)) (clash_is_conflict s (get_or words i 0) (get_or words j 0))
+
+  stands_same : (j : ℕ) → j < length words → stands_at entries j ≡ (ltb (place j order) (length words) && all (λ i. keeps (conflict s) words order i j) j)
+  stands_same j l =
+      ap₂ (λ (a b : Bool). a && b) (ap₂ ltb (ap (λ (e : Entry). e.place) (each j l)) long)
+      (list_all_below (λ e. keeps_entry e (entry_at entries j)) entries j (omega arith) ∙ all_same _ _ j (λ i h. keeps_same i j (omega arith) l))
+
+  pub stands_permitted : {b : Bool} → b ≡ all (stands_at entries) (length entries) → b ≡ permitted_by s words order
   unfolding permits
   stands_permitted e =
       e
-      ∙ all_same _ (λ j. ltb (place j order) (length words) && all (λ i. keeps (conflict s) words order i j) j) (length words)
-      (λ j l.
-      ap₂ (λ (a b : Bool). a && b) (ap (λ (p : ℕ). ltb p (length words)) (places j (omega arith)))
-      (all_same _ (λ i. keeps (conflict s) words order i j) j (λ i h. keeps_same i j (omega arith) l)))
+      ∙ ap (all (stands_at entries)) long
+      ∙ all_same _ _ (length words) stands_same
       ∙ all_both (λ j. ltb (place j order) (length words)) (λ j. all (λ i. keeps (conflict s) words order i j) j) (length words)
       ∙ ap (λ (b : Bool). b && permits (conflict s) words order) (listed_rearranges (length words) order same)
+
+-- the entries of the words, before and after they are placed
+module _ (s : Setting) (words order : List ℕ) (same : length order ≡ length words) (few : length words ≤ 256) (table : List Entry) (T : Told s words (length words) table) where
+  long_front : length (take (length words) table) ≡ length words
+  long_front = length-take-le (length words) table (omega (arith, T.long))
+
+  at_front : (i : ℕ) → i < length words → entry_at (take (length words) table) i ≡ entry_at table i
+  at_front i l = get_or-take (length words) table i _ l
+
+  pub front_unplaced : Unplaced (length order) (take (length words) table)
+  front_unplaced i h =
+      let l : i < length words = omega (arith, long_front) in
+      ap (λ (e : Entry). e.place) (at_front i l) ∙ T.place i (omega arith) ∙ sym same
+
+  pub placed_permitted : (entries : List Entry) → length entries ≡ length (take (length words) table) → Placed order (take (length words) table) entries
+      → {b : Bool} → b ≡ all (stands_at entries) (length entries) → b ≡ permitted_by s words order
+  placed_permitted entries l P =
+      stands_permitted s words order entries same (l ∙ long_front)
+      (λ i h. P i (omega (arith, long_front)) ∙ ap (λ (t : Touch). entry t (place i order)) (ap (λ (e : Entry). e.touch) (at_front i h) ∙ T.touch i h))
 
 -- ---- the answers
 module _ (s : Setting) (words order : List ℕ) where

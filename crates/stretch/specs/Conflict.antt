@@ -1,13 +1,12 @@
 -- Document 01, "What a word touches": whether two words conflict under a setting, or 1 or 3 if either can't be read (the first word's answer first).
-use Rattle.std.specs.Prelude.{Bool, true, false, ℕ}
-use Rattle.setting.specs.Numbers.{Outcome, accept, refuse, number_of}
+use Rattle.std.specs.Prelude.{Bool, true, false, ℕ, Result, Ok, Err}
+use Rattle.setting.specs.Numbers.{Outcome, accept, refuse, refusal_number}
 use Rattle.setting.specs.declared.Setting.{Setting}
+use Rattle.setting.specs.declared.Refusal.{Refusal}
 use Rattle.order.specs.Banks.{same_register}
 use Rattle.order.specs.Touch.{conflicting}
 use Rattle.encoding.specs.Decode.{decode_of}
 use Rattle.machine.specs.Step.{over_word, reads, writes}
-use Rattle.stretch.specs.declared.Reply.{Reply}
-use Rattle.stretch.specs.declared.Reply.TheVariants.{Yes, No, Refused}
 
 -- one of the two words writes a register that the other reads or writes
 abbrev pub conflict : Setting → ℕ → ℕ → Bool
@@ -26,7 +25,6 @@ unfoldable pub conflict_of : Setting → ℕ → ℕ → Outcome Bool
 conflict_of s v w = if_read (decode_of s v) (if_read (decode_of s w) (accept (conflict s v w)))
 
 -- the number and value of what a question about words answers
-abbrev pub reply_as : Reply → Outcome Bool
-reply_as Yes = accept true
-reply_as No = accept false
-reply_as (Refused a) = refuse (number_of a)
+abbrev pub reply_as : Result Bool Refusal → Outcome Bool
+reply_as (Ok b) = accept b
+reply_as (Err a) = refuse (refusal_number a)

@@ -1,18 +1,25 @@
 -- What the code goes by: a bit for each register that a word touches (Z0 to Z31, P0 to P15, ZT0 and W12 to W15 from the lowest), and tables over the positions of a stretch.
-use Rattle.std.specs.Prelude.{◌≡◌, Bool, not, ◌&&◌, ◌||◌, List, [], ◌∷◌, ℕ, ◌+◌, ◌^◌, ◌≤◌, ltb, get_or}
+use Rattle.std.specs.Prelude.{◌≡◌, Bool, true, false, not, ◌&&◌, ◌||◌, List, [], ◌∷◌, ℕ, ◌+◌, ◌^◌, ◌≤◌, ◌<◌, ltb, length, get_or, take, Result, Ok, Err}
+use Rattle.std.specs.List.{list_all}
 use Rattle.std.specs.Int.Bits.{bit_or}
 use Rattle.element.specs.Private.{shares}
-use Rattle.setting.specs.Numbers.{Outcome, accept, refuse, number_of}
+use Rattle.setting.specs.Numbers.{Outcome, accept, refuse, refusal_number}
 use Rattle.setting.specs.declared.Setting.{Setting}
+use Rattle.setting.specs.declared.Refusal.{Refusal}
 use Rattle.order.specs.Banks.{Register}
+use Rattle.order.specs.Rearranged.{place}
+use Rattle.machine.specs.Machine.{Z, P, ZT0, W}
 use Rattle.encoding.specs.Decode.{decode_of}
 use Rattle.encoding.specs.declared.Instruction.{Instruction}
 use Rattle.machine.specs.Effects.{effect_of}
 use Rattle.machine.specs.Step.{reads, writes}
+use Rattle.stretch.specs.declared.touch.Register.{Register as Named}
+use Rattle.stretch.specs.declared.touch.Register.TheVariants.{Vector, Predicate, Table, Index}
 use Rattle.stretch.specs.declared.touch.Touch.{Touch}
-use Rattle.stretch.specs.declared.touch.Reading.{Reading}
-use Rattle.stretch.specs.declared.touch.Reading.TheVariants.{Touches, Refused}
+use Rattle.stretch.specs.declared.tables.Entry.{Entry}
 use Rattle.logic.specs.Every.{all}
+use Rattle.stretch.specs.Conflict.{is_read}
+use Rattle.stretch.specs.Permission.{all_read}
 
 -- by bank: the bit of its first register
 abbrev pub start_of : ℕ → ℕ
@@ -20,6 +27,24 @@ start_of b = get_or (0 ∷ 32 ∷ 48 ∷ 49 ∷ []) b 53
 
 unfoldable pub register_bit : Register → ℕ
 register_bit r = 2 ^ (start_of r.bank + r.at)
+
+-- a register by its name
+abbrev pub register_as : Named → Register
+register_as (Vector k) = Z k
+register_as (Predicate k) = P k
+register_as Table = ZT0
+register_as (Index k) = W k
+
+-- there is a register of that name
+abbrev pub IsThere : Named → Type 0
+IsThere (Vector k) = k < 32
+IsThere (Predicate k) = k < 16
+IsThere Table = Unit {0}
+IsThere (Index k) = (12 ≤ k) × (k < 16)
+
+abbrev pub AllThere : List Named → Type 0
+AllThere [] = Unit {0}
+AllThere (r ∷ rs) = IsThere r × AllThere rs
 
 -- the bits of the registers of a list
 unfoldable pub bits_of : List Register → ℕ
@@ -44,28 +69,46 @@ touch_in (refuse n) = refuse n
 abbrev pub reading_of : Setting → ℕ → Outcome Touch
 reading_of s w = touch_in (decode_of s w)
 
-abbrev pub reading_as : Reading → Outcome Touch
-reading_as (Touches t) = accept t
-reading_as (Refused a) = refuse (number_of a)
+abbrev pub reading_as : Result Touch Refusal → Outcome Touch
+reading_as (Ok t) = accept t
+reading_as (Err a) = refuse (refusal_number a)
 
 -- one writes a register that the other reads or writes
 abbrev pub clashes : Touch → Touch → Bool
 clashes v w = shares v.writes w.touched || shares w.writes v.touched
 
--- ---- tables of the words' touches and of their places in the order
--- the tables have room for each word
-pub record Room (words writes touched : ℕ) : Type 0 where
-  pub few : words ≤ 256
-  pub writes_long : writes ≡ 256
-  pub touched_long : touched ≡ 256
+-- ---- the words as entries
+abbrev pub entry : Touch → ℕ → Entry
+entry t p = record { touch = t; place = p }
 
-abbrev pub touch_at : List ℕ → List ℕ → ℕ → Touch
-touch_at writes touched i = record { writes = get_or writes i 0; touched = get_or touched i 0 }
+-- the entry at i, or one that touches nothing
+abbrev pub entry_at : List Entry → ℕ → Entry
+entry_at entries i = get_or entries i (entry (joined 0 0) 0)
 
--- the words at i and j do not clash, or i comes before j
-abbrev pub keeps_at : List ℕ → List ℕ → List ℕ → ℕ → ℕ → Bool
-keeps_at writes touched place i j = not (clashes (touch_at writes touched i) (touch_at writes touched j)) || ltb (get_or place i 0) (get_or place j 0)
+-- the first n words are read, and the entries say what each touches; none of the entries is placed
+pub record Told (s : Setting) (words : List ℕ) (n : ℕ) (entries : List Entry) : Type 0 where
+  pub long : length entries ≡ 256
+  pub read : all (λ i. is_read s (get_or words i 0)) n ≡ true
+  pub touch : (i : ℕ) → i < n → (entry_at entries i).touch ≡ touch_of s (get_or words i 0)
+  pub place : (i : ℕ) → i < 256 → (entry_at entries i).place ≡ length words
 
--- j is listed among n entries, and behind each earlier word that clashes
-abbrev pub stands_at : List ℕ → List ℕ → List ℕ → ℕ → ℕ → Bool
-stands_at writes touched place n j = ltb (get_or place j 0) n && all (λ i. keeps_at writes touched place i j) j
+-- a word is refused as undefined
+pub record UnreadIn (s : Setting) (words : List ℕ) (a : Refusal) : Type 0 where
+  pub number : refusal_number a ≡ 3
+  pub unread : all_read s words ≡ false
+
+-- each entry has this number for its place
+abbrev pub Unplaced : ℕ → List Entry → Type 0
+Unplaced n entries = (i : ℕ) → i < length entries → (entry_at entries i).place ≡ n
+
+-- each entry has its place in the order
+abbrev pub Placed : List ℕ → List Entry → List Entry → Type 0
+Placed order before after = (i : ℕ) → i < length before → entry_at after i ≡ entry (entry_at before i).touch (place i order)
+
+-- the two do not clash, or the earlier still comes first
+abbrev pub keeps_entry : Entry → Entry → Bool
+keeps_entry earlier later = not (clashes earlier.touch later.touch) || ltb earlier.place later.place
+
+-- the word at j is listed, and behind each earlier one that clashes
+abbrev pub stands_at : List Entry → ℕ → Bool
+stands_at entries j = ltb (entry_at entries j).place (length entries) && list_all (λ e. keeps_entry e (entry_at entries j)) (take j entries)

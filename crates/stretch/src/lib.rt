@@ -10,34 +10,19 @@ ghost use Rattle.stretch.specs.Conflict.{conflict_of, reply_as};
 ghost use Rattle.stretch.specs.Permission.{permitted_of};
 ghost use Rattle.stretch.specs.Claims.{Claims};
 
-use setting::{Answer, Setting};
-use touch::Reading;
+use setting::{Refusal, Setting};
+use touch::Touch;
 
-// What a question about words answers. `reply_as` has the number and value of each.
-#[derive(Clone, Copy)]
-pub enum Reply {
-    Yes,
-    No,
-    Refused(Answer),
-}
-
-fn yes_or_no(b: bool) -> Reply
-    ensures { reply_as result ≡ accept b }
-{
-    if b { Reply::Yes } else { Reply::No }
-}
+// What a question about words answers: yes or no, or a refusal. `reply_as` has the number and value of each.
+pub type Reply = Result<bool, Refusal>;
 
 // Whether two words conflict under a setting.
 pub fn conflict(setting: Setting, first: u32, second: u32) -> Reply
     ensures { reply_as result ≡ conflict_of setting first second }
 {
-    match touch::read(setting, first) {
-        Reading::Refused(answer) => Reply::Refused(answer),
-        Reading::Touches(v) => match touch::read(setting, second) {
-            Reading::Refused(answer) => Reply::Refused(answer),
-            Reading::Touches(w) => yes_or_no(touch::clash(v, w)),
-        },
-    }
+    let v = Touch::read(setting, first)?;
+    let w = Touch::read(setting, second)?;
+    Ok(v.clashes(w))
 }
 
 // Whether an order of a stretch's positions is a permitted rearrangement of it. One of another length is none.
@@ -45,22 +30,19 @@ pub fn permitted(setting: Setting, words: &[u32], order: &[u32]) -> Reply
     ensures { reply_as result ≡ permitted_of setting words.now order.now }
 {
     if !setting::allowed(setting) {
-        return Reply::Refused(Answer::NotAllowed);
-    }
-    if words.len() > 256 {
-        return Reply::Refused(Answer::TooManyWords);
-    }
-    let mut writes = [0u64; 256];
-    let mut touched = [0u64; 256];
-    if !tables::touches(setting, words, &mut writes, &mut touched) {
-        return Reply::Refused(Answer::Undefined);
+        return Err(Refusal::NotAllowed);
     }
     let n = words.len();
-    if order.len() != n {
-        return Reply::No;
+    if n > 256 {
+        return Err(Refusal::TooManyWords);
     }
-    let place = tables::places(order);
-    yes_or_no(tables::stands(&writes, &touched, &place, n))
+    let mut table = tables::unplaced(setting, words)?;
+    if order.len() != n {
+        return Ok(false);
+    }
+    let entries = &mut table[..n];
+    tables::give_places(entries, order);
+    Ok(tables::stands(entries))
 }
 
 // The theorems about these definitions. It does nothing: its promise has the check demand their proofs.

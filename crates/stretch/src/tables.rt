@@ -1,95 +1,64 @@
-// The words' touches and their places in an order as tables over the positions of a stretch, and the tests over all of them.
-ghost use Rattle.std.specs.Prelude.{◌≡◌, true, ℕ, ◌≤◌, ◌<◌, length, get_or};
-ghost use Rattle.order.specs.Rearranged.{place};
+// The words of a stretch as entries, with what each touches and its place in an order, and the tests over all of them.
+ghost use Rattle.std.specs.Prelude.{◌≡◌, true, ◌≤◌, length, MatchResult};
+ghost use Rattle.std.specs.List.{list_all};
+ghost use Rattle.setting.specs.Allowed.{allowed_of};
 ghost use Rattle.logic.specs.Every.{all};
-ghost use Rattle.stretch.specs.Permission.{all_read};
-ghost use Rattle.stretch.specs.Private.{touch_of, Room, touch_at, keeps_at, stands_at};
+ghost use Rattle.stretch.specs.Private.{Told, Unplaced, Placed, UnreadIn, keeps_entry, stands_at};
 
-use crate::touch;
-use crate::touch::{Reading, Touch};
-use setting::Setting;
+use crate::touch::Touch;
+use setting::{Refusal, Setting};
 
-// What each word touches, and whether every word can be read.
-pub(crate) fn touches(
-    setting: Setting,
-    words: &[u32],
-    writes: &mut [u64; 256],
-    touched: &mut [u64; 256],
-) -> bool
-    requires { Room (length words.now) (length writes.old) (length touched.old) }
-    ensures read { result ≡ all_read setting words.now }
-    ensures each { result ≡ true → (i : ℕ) → i < length words.now → touch_at writes.new touched.new i ≡ touch_of setting (get_or words.now i 0) }
-{
-    let mut i: usize = 0;
-    while i < words.len() {
-        let Reading::Touches(t) = touch::read(setting, words[i]) else {
-            return false;
-        };
-        writes[i] = t.writes;
-        touched[i] = t.touched;
-        i += 1;
-    }
-    true
+// A word of the stretch: what it touches, and its place in the order.
+#[derive(Clone, Copy)]
+pub(crate) struct Entry {
+    touch: Touch,
+    place: usize,
 }
 
-// The place of each position below 256; the order's length for one that it does not list. From the last entry, so that the first of two stays.
-pub(crate) fn places(order: &[u32]) -> [usize; 256]
-    ensures { (i : ℕ) → i < 256 → get_or result i 0 ≡ place i order.now }
+// The words as entries. None is placed: each has the number of words for its place, as one that an order does not list.
+pub(crate) fn unplaced(setting: Setting, words: &[u32]) -> Result<[Entry; 256], Refusal>
+    requires allowed { allowed_of setting ≡ true }
+    requires few { length words.now ≤ 256 }
+    ensures { MatchResult result (Told setting words.now (length words.now)) (UnreadIn setting words.now) }
 {
-    let mut k = order.len();
-    let mut place = [k; 256];
-    while k > 0 {
-        k -= 1;
-        let position = order[k] as usize;
-        if position < 256 {
-            place[position] = k;
-        }
+    let mut entries = [Entry {
+        touch: Touch::default(),
+        place: words.len(),
+    }; 256];
+    for (i, word) in words.iter().enumerate() {
+        entries[i].touch = Touch::read(setting, *word)?;
     }
-    place
+    Ok(entries)
 }
 
-// Whether each earlier word that clashes with the word at j still comes before it.
-fn keeps(writes: &[u64; 256], touched: &[u64; 256], place: &[usize; 256], j: usize) -> bool
-    requires { j < 256 }
-    ensures { result ≡ all (λ i. keeps_at writes.now touched.now place.now i j) j }
+// Gives each entry its place in the order. From the last one, so that the first of two stays.
+pub(crate) fn give_places(entries: &mut [Entry], order: &[u32])
+    requires { Unplaced (length order.now) entries.old }
+    ensures { Placed order.now entries.old entries.new }
 {
-    let w = Touch {
-        writes: writes[j],
-        touched: touched[j],
-    };
-    let mut i: usize = 0;
-    while i < j {
-        let v = Touch {
-            writes: writes[i],
-            touched: touched[i],
-        };
-        if touch::clash(v, w) & (place[i] >= place[j]) {
-            return false;
+    for k in (0..order.len()).rev() {
+        let i = order[k] as usize;
+        if i < entries.len() {
+            entries[i].place = k;
         }
-        i += 1;
     }
-    true
 }
 
-// Whether the order of n entries lists each of the n positions, and keeps each pair that clashes.
-pub(crate) fn stands(
-    writes: &[u64; 256],
-    touched: &[u64; 256],
-    place: &[usize; 256],
-    n: usize,
-) -> bool
-    requires { n ≤ 256 }
-    ensures { result ≡ all (stands_at writes.now touched.now place.now n) n }
+// Whether a word comes after each earlier one that it clashes with.
+fn keeps(earlier: &[Entry], later: Entry) -> bool
+    ensures { result ≡ list_all (λ e. keeps_entry e later) earlier.now }
 {
-    let mut j: usize = 0;
-    while j < n {
-        if place[j] >= n {
+    earlier.iter().all(|entry| !entry.touch.clashes(later.touch) | (entry.place < later.place))
+}
+
+// Whether the order lists each of the positions, and keeps each pair that clashes.
+pub(crate) fn stands(entries: &[Entry]) -> bool
+    ensures { result ≡ all (stands_at entries.now) (length entries.now) }
+{
+    for (j, entry) in entries.iter().enumerate() {
+        if entry.place >= entries.len() || !keeps(&entries[..j], *entry) {
             return false;
         }
-        if !keeps(writes, touched, place, j) {
-            return false;
-        }
-        j += 1;
     }
     true
 }

@@ -1,28 +1,29 @@
 -- `permitted` meets its contract: each return is the case of the definition that its tests say.
-use mathlib.Core.Path.{◌∙◌}
-use native.Mathlib.Omega.{arith}
+use Rattle.std.proofs.Common.{arith}
+use Rattle.std.proofs.lemmas.Result.{err_from_is_err_and}
 use Rattle.element.proofs.Tests.{said_no, said_yes}
-use Rattle.stretch.proofs.Permitting.{stands_permitted, permission_not_allowed, permission_too_many, permission_unread, permission_other_length, permission_is}
+use Rattle.stretch.proofs.Permitting.{front_unplaced, placed_permitted, permission_not_allowed, permission_too_many, permission_unread, permission_other_length, permission_is}
 use Rattle.stretch.proofs.permitted.Goals as goal
 
 pub returns-then-not-allowed : goal.returns-then-not-allowed
 returns-then-not-allowed c = permission_not_allowed _ _ _ (said_no c.allowed.ensures c.if-not-allowed.true)
 
-pub returns-then-words-gt256 : goal.returns-then-words-gt256
-returns-then-words-gt256 c = permission_too_many _ _ _ (said_yes c.allowed.ensures c.if-not-allowed.false) (omega arith)
+pub returns-then-n-gt256 : goal.returns-then-n-gt256
+returns-then-n-gt256 c = permission_too_many _ _ _ (said_yes c.allowed.ensures c.if-not-allowed.false) (omega arith)
 
-pub returns-then-not-touches : goal.returns-then-not-touches
-returns-then-not-touches c = permission_unread _ _ _ (said_yes c.allowed.ensures c.if-not-allowed.false) c.if-words-gt256.false (said_no c.touches.ensures.read c.if-not-touches.true)
+pub returns-in_err-table : goal.returns-in_err-table
+returns-in_err-table c =
+    let p = err_from_is_err_and c.from_residual.result c.from_residual.ensures.1 in
+    rw (p.1, p.2, c.in_err-table.ensures.number) (permission_unread _ _ _ (said_yes c.allowed.ensures c.if-not-allowed.false) c.if-n-gt256.false c.in_err-table.ensures.unread)
 
 pub returns-then-order-n : goal.returns-then-order-n
-returns-then-order-n c = permission_other_length _ _ _ (said_yes c.allowed.ensures c.if-not-allowed.false) c.if-words-gt256.false (said_yes c.touches.ensures.read c.if-not-touches.false) c.if-order-n.true
+returns-then-order-n c = permission_other_length _ _ _ (said_yes c.allowed.ensures c.if-not-allowed.false) (omega arith) c.in_ok-table.ensures.read c.if-order-n.true
+
+pub give_places-requires : goal.give_places-requires
+give_places-requires c = front_unplaced c.args.setting c.args.words.now c.args.order.now c.if-order-n.false c.if-n-gt256.false c.in_ok-table.table c.in_ok-table.ensures
 
 pub returns : goal.returns
 returns c =
     let a = c.args in
-    let t = c.touches.new in
-    let few = c.if-words-gt256.false in
-    c.yes_or_no.ensures
-    ∙ permission_is a.setting a.words.now a.order.now (said_yes c.allowed.ensures c.if-not-allowed.false) few (said_yes c.touches.ensures.read c.if-not-touches.false)
-    (stands_permitted a.setting a.words.now a.order.now t.writes t.touched c.places-place.result c.if-order-n.false few
-    (c.touches.ensures.each c.if-not-touches.false) c.places-place.ensures c.stands.ensures)
+    permission_is a.setting a.words.now a.order.now (said_yes c.allowed.ensures c.if-not-allowed.false) c.if-n-gt256.false c.in_ok-table.ensures.read
+    (placed_permitted a.setting a.words.now a.order.now c.if-order-n.false c.if-n-gt256.false c.in_ok-table.table c.in_ok-table.ensures c.give_places.new.entries c.give_places.auto.entries c.give_places.ensures c.stands.ensures)

@@ -1,17 +1,14 @@
--- `stands` meets its contract: every position below j passed the test.
-use mathlib.Core.Path.{sym}
-use native.Mathlib.Omega.{arith}
-use Rattle.element.proofs.Below.{one_fails}
-use Rattle.stretch.specs.Private.{stands_at}
-use Rattle.stretch.proofs.Tabled.{position_unlisted, position_fails}
+-- `stands` meets its contract: a position that fails the code's test fails the definition's.
+use Rattle.std.proofs.Common.{arith}
+use Rattle.stretch.proofs.Entries.{unlisted, turned}
 use Rattle.stretch.proofs.tables.stands.Goals as goal
+use Rattle.stretch.proofs.tables.stands.Goals.{then-entry-entries-via-then-entry-entries, then-entry-entries-via-else-entry-entries+then-not-keeps}
 
-pub returns-then-place-j : goal.returns-then-place-j
-returns-then-place-j c =
-    let a = c.args in
-    sym (one_fails (stands_at a.writes.now a.touched.now a.place.now a.n) a.n c.loop-j.j (omega arith) (position_unlisted a.writes.now a.touched.now a.place.now a.n c.loop-j.j (omega arith)))
-
-pub returns-then-not-keeps : goal.returns-then-not-keeps
-returns-then-not-keeps c =
-    let a = c.args in
-    sym (one_fails (stands_at a.writes.now a.touched.now a.place.now a.n) a.n c.loop-j.j (omega arith) (position_fails a.writes.now a.touched.now a.place.now a.n c.loop-j.j c.keeps.ensures c.if-not-keeps.true))
+pub returns-then-entry-entries : goal.returns-then-entry-entries
+returns-then-entry-entries c =
+    let j = c.loop-j.j in
+    let entries = c.args.entries.now in
+    elim c.then-entry-entries.branch [
+      | then-entry-entries-via-then-entry-entries w ↦ unlisted entries j c.loop-j-test.true (omega arith)
+      | then-entry-entries-via-else-entry-entries+then-not-keeps w ↦ turned entries j c.loop-j-test.true w.keeps.ensures w.if-not-keeps.true
+    ]
