@@ -37,15 +37,6 @@ module _ (s : Setting) (i : Instruction) (z p zt : List ℕ) (c : Scalars) where
   unfolding executed_of next
   done_for z' p' e q = ap (λ (x : Machine). record { number = 0; left = next x }) q ∙ ap (λ (n : ℕ). executed n s.vl i (machine z p zt c)) e
 
--- ---- before a word: what is refused before any of some words
-pub checked_before : (s : Setting) (m : Machine) (n : ℕ) → 0 ≡ first_failed (need 1 (allowed_of s) ∷ need 2 (sized m) ∷ need 8 (leb n 256) ∷ []) → Checked s m × (n ≤ 256)
-checked_before s m n e =
-    decide (allowed_of s)
-    (λ a. decide (sized m)
-    (λ h. decide (leb n 256) (λ l. (record { allowed = a; files = h }, leb-true n 256 l)) (λ l. absurd (omega (arith, rw (a, h, l) at e))))
-    (λ h. absurd (omega (arith, rw (a, h) at e))))
-    (λ a. absurd (omega (arith, rw a at e)))
-
 -- ---- a word
 module _ (s : Setting) (w : ℕ) (m : Machine) where
   pub step_not_begun : (n : ℕ) → n ≡ first_failed (need 1 (allowed_of s) ∷ need 2 (sized m) ∷ need 8 (leb 1 256) ∷ []) → (n ≡ 0 → ⊥) → ◌≡◌ {A = Step} (record { number = n; left = m }) (step_of s w m)

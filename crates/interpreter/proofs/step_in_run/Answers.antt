@@ -4,4 +4,4 @@ use Rattle.machine.proofs.Forms.{no_row}
 use Rattle.interpreter.proofs.step_in_run.Goals as goal
 
 pub returns-in_default : goal.returns-in_default
-returns-in_default c = no_row _ _ c.place-place.result _ (record { checked = c.requires; place = c.place-place.ensures }) (omega arith)
+returns-in_default c = no_row _ _ c.place.result _ (record { checked = c.requires; place = c.place.ensures }) (omega arith)
