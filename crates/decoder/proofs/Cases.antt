@@ -1,19 +1,23 @@
 -- What `decode_of` is in each case that the code meets, over plain numbers: what the functions' proofs cite.
-use mathlib.Core.Path.{◌≡◌, sym, ap, ◌∙◌}
-use mathlib.Core.Bool.{true, false, not, ◌||◌}
+use mathlib.Core.Path.{◌≡◌, refl, sym, ap, ◌∙◌}
+use mathlib.Core.Bool.{Bool, true, false, not, ◌||◌}
 use mathlib.Core.List.{List, [], ◌∷◌}
-use Prim.Native.Nat.{ℕ, zero, suc, ◌+◌, ◌*◌, ◌≤◌}
+use Prim.Native.Nat.{ℕ, zero, suc, ◌+◌, ◌*◌, ◌≤◌, ◌<◌}
 use native.Mathlib.Nat.{zero-add, zero-mul, suc-mul}
 use native.Mathlib.Omega.{arith}
 use lib.Dec.{eqb, eqb→eq}
 use lib.ListN.{length}
-use borrow.Author.Tests.{ne_eqb}
+use borrow.Author.Tests.{ne_eqb, lt-ltb}
+use Rattle.std.specs.Prelude.{ltb, Some, None}
+use Rattle.std.proofs.lemmas.Option.{same_Some, none-some}
+use Rattle.std.proofs.lemmas.Bool.{ltb-false}
+use Rattle.logic.specs.Pick.{pick}
 use Rattle.setting.specs.Allowed.{allowed_of}
 use Rattle.setting.specs.Numbers.{refuse}
 use Rattle.setting.specs.declared.Setting.{Setting}
 use Rattle.element.proofs.Below.{below}
 use Rattle.encoding.specs.Rows.{Row, rows, row_matches}
-use Rattle.encoding.specs.Places.{place_first, place_in}
+use Rattle.encoding.specs.Places.{place_first, place_in, found_place}
 use Rattle.encoding.specs.Decode.{first_of, read_at, decode_of}
 use Rattle.encoding.proofs.Apart.{decide}
 use Rattle.encoding.proofs.Choice.{first_is_read}
@@ -31,6 +35,25 @@ own_place k w h = eqb→eq (place_in (read_at rows k w)) k (below (λ j. eqb (pl
 place_of_first : (f w : ℕ) → place_first rows f w ≡ place_in (first_of rows f w)
 place_of_first f w = sym (ap place_in (first_is_read rows f w) ∙ own_place (place_first rows f w) w (place_le rows f w))
 
+-- ---- a place as the code answers it
+picked_some : {k : ℕ} (b : Bool) (n : ℕ) → pick b (Some n) None ≡ Some k → (b ≡ true) × (n ≡ k)
+picked_some true n e = (refl, same_Some n _ e)
+picked_some false n e = absurd (none-some _ e)
+
+picked_none : (b : Bool) (n : ℕ) → pick b (Some n) None ≡ None → b ≡ false
+picked_none true n e = absurd (none-some n (sym e))
+picked_none false n e = refl
+
+pub place_some : (n : ℕ) {k : ℕ} → found_place n ≡ Some k → k ≡ n
+place_some n e = sym (picked_some (ltb n (length rows)) n e).1
+
+-- no row is found where none matches
+pub none_first : (f w : ℕ) → found_place (place_first rows f w) ≡ None → place_first rows f w ≡ length rows
+none_first f w e = let n = ltb-false (place_first rows f w) (length rows) (picked_none (ltb (place_first rows f w) (length rows)) (place_first rows f w) e) in omega (arith, n, place_le rows f w)
+
+pub place_at : (k : ℕ) → k < length rows → Some k ≡ found_place k
+place_at k h = rw (lt-ltb k (length rows) h)
+
 -- ---- decode
 module _ (s : Setting) (w : ℕ) where
   pub decode_not_allowed : allowed_of s ≡ false → refuse 1 ≡ decode_of s w
@@ -42,9 +65,13 @@ module _ (s : Setting) (w : ℕ) where
     unfolding decode_of
     decode_row = simp a (ap (λ (j : ℕ). read_at rows j w) e ∙ sym (first_is_read rows s.features w))
 
-    pub form_place : k ≡ place_in (decode_of s w)
+  module _ (a : allowed_of s ≡ true) where
+    pub decode_undefined : place_first rows s.features w ≡ length rows → refuse 3 ≡ decode_of s w
+    decode_undefined e = ap (λ (j : ℕ). read_at rows j w) (sym e) ∙ decode_row a (place_first rows s.features w) refl
+
+    pub form_place : place_first rows s.features w ≡ place_in (decode_of s w)
     unfolding decode_of
-    form_place = simp a (e ∙ place_of_first s.features w)
+    form_place = simp a (place_of_first s.features w)
 
 -- two fields that are not both 0 are no 0 one behind the other
 pub not_both_zero : (n a b : ℕ) → (not (eqb a 0) || not (eqb b 0)) ≡ not (eqb (a * suc n + b) 0)

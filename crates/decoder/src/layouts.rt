@@ -1,8 +1,7 @@
 // Which row of the table a word has: two searches of the table, by layout, features and field condition.
 ghost use Rattle.std.specs.Prelude.{◌≡◌};
-ghost use Rattle.logic.specs.Pick.{pick};
 ghost use Rattle.encoding.specs.Rows.{rows};
-ghost use Rattle.encoding.specs.Places.{place_first};
+ghost use Rattle.encoding.specs.Places.{place_first, found_place};
 ghost use Rattle.decoder.specs.Private.{condition_at, rest_at};
 
 use encoding::table;
@@ -30,23 +29,14 @@ fn rest(place: usize, features: u32, word: u32) -> bool
     table::available(place, features) & condition(place, word)
 }
 
-fn select(hit: bool, place: usize, later: usize) -> usize
-    ensures { result ≡ pick hit place later }
+// The place of the first row that matches. Every row is tested, from the last: for words in no order a branch is rarely foreseen.
+pub(crate) fn place_of(features: u32, word: u32) -> Option<usize>
+    ensures { result ≡ found_place (place_first rows features word) }
 {
-    if hit { place } else { later }
-}
-
-// The place of the first row that matches, or ROWS. Every row is tested, from the last: for words in no order a branch is rarely
-// foreseen.
-pub(crate) fn place_of(features: u32, word: u32) -> usize
-    ensures { result ≡ place_first rows features word }
-{
-    let mut place = ROWS;
-    let mut k = ROWS;
-    while k > 0 {
-        k -= 1;
+    let mut place = None;
+    for k in (0..ROWS).rev() {
         let hit = table::has_layout(k, word) & rest(k, features, word);
-        place = select(hit, k, place);
+        place = hit.then_some(k).or(place);
     }
     place
 }
@@ -56,16 +46,13 @@ const TURNS: [usize; ROWS] = [0, 5, 1, 2, 3, 4];
 
 // The same, by turns, up to one that matches: no word has two layouts, so the order is free. In a run the same words come again,
 // and each branch is foreseen.
-pub(crate) fn place_by_turns(features: u32, word: u32) -> usize
-    ensures { result ≡ place_first rows features word }
+pub(crate) fn place_by_turns(features: u32, word: u32) -> Option<usize>
+    ensures { result ≡ found_place (place_first rows features word) }
 {
-    let mut n: usize = 0;
-    while n < ROWS {
-        let k = TURNS[n];
+    for k in TURNS {
         if table::has_layout(k, word) && rest(k, features, word) {
-            return k;
+            return Some(k);
         }
-        n += 1;
     }
-    ROWS
+    None
 }

@@ -1,14 +1,13 @@
 -- Document 01, "for reading a word 1, 3": what a word is read as under a setting.
-use Rattle.std.specs.Prelude.{List, [], ◌∷◌, map, ℕ, get_or}
+use Rattle.std.specs.Prelude.{List, [], ◌∷◌, map, ℕ, get_or, Result, Ok, Err}
 use Rattle.setting.specs.Allowed.{allowed_of}
-use Rattle.setting.specs.Numbers.{Outcome, accept, refuse, number_of}
+use Rattle.setting.specs.Numbers.{Outcome, accept, refuse, refusal_number}
+use Rattle.setting.specs.declared.Refusal.{Refusal}
 use Rattle.setting.specs.declared.Setting.{Setting}
 use Rattle.logic.specs.Pick.{pick}
 use Rattle.encoding.specs.Layout.{fields_of}
 use Rattle.encoding.specs.Rows.{Row, rows, row_matches}
 use Rattle.encoding.specs.declared.Instruction.{Instruction}
-use Rattle.encoding.specs.declared.Decoded.{Decoded}
-use Rattle.encoding.specs.declared.Decoded.TheVariants.{Fields, Refused}
 
 -- the fields of the first row that matches; 3 where none does
 abbrev pub first_of : List Row → ℕ → ℕ → Outcome Instruction
@@ -23,6 +22,6 @@ unfoldable pub decode_of : Setting → ℕ → Outcome Instruction
 decode_of s w = pick (allowed_of s) (first_of rows s.features w) (refuse 1)
 
 -- the number and values of what `decode` answers
-abbrev pub decoded_as : Decoded → Outcome Instruction
-decoded_as (Fields i) = accept i
-decoded_as (Refused a) = refuse (number_of a)
+abbrev pub decoded_as : Result Instruction Refusal → Outcome Instruction
+decoded_as (Ok i) = accept i
+decoded_as (Err refusal) = refuse (refusal_number refusal)

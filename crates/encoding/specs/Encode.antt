@@ -1,14 +1,14 @@
 -- Document 01, "for writing a word 1, 9, 3": the word that an instruction is written as under a setting.
-use Rattle.std.specs.Prelude.{ℕ}
+use Rattle.std.specs.Prelude.{ℕ, Result, Ok, Err}
 use Rattle.setting.specs.Allowed.{has_any, allowed_of}
-use Rattle.setting.specs.Numbers.{number_of}
+use Rattle.setting.specs.Numbers.{refusal_number}
+use Rattle.setting.specs.declared.Refusal.{Refusal}
 use Rattle.setting.specs.declared.Setting.{Setting}
 use Rattle.logic.specs.Pick.{pick}
 use Rattle.encoding.specs.Layout.{word_of}
 use Rattle.encoding.specs.Instructions.{in_range, raw_of}
 use Rattle.encoding.specs.Rows.{row_of}
 use Rattle.encoding.specs.declared.Instruction.{Instruction}
-use Rattle.encoding.specs.declared.Encoded.{Encoded}
 
 -- a number and a word: the word is 0 where the number is not
 pub record Written : Type 0 where
@@ -30,5 +30,6 @@ encode_of s i =
     (unwritten 1)
 
 -- the number and values of what `encode` answers
-abbrev pub encoded_as : Encoded → Written
-encoded_as e = record { number = number_of e.answer; word = e.word }
+abbrev pub encoded_as : Result ℕ Refusal → Written
+encoded_as (Ok w) = written w
+encoded_as (Err refusal) = unwritten (refusal_number refusal)

@@ -8,10 +8,8 @@ ghost use Rattle.encoding.specs.Instructions.{narrow_number};
 ghost use Rattle.encoding.specs.Rows.{place_of};
 ghost use Rattle.encoding.specs.Claims.{Claims};
 
-use setting::Answer;
-
 // A word's fields as read: element size and register numbers. No variant is a refusal.
-#[derive(Clone, Copy)]
+#[derive(Clone, Copy, Debug, PartialEq, Eq)]
 pub enum Instruction {
     // One or two portions of a counter's mask, from the first on.
     Pext {
@@ -52,19 +50,6 @@ pub enum Instruction {
         zn: u32,
         zd: u32,
     },
-}
-
-#[derive(Clone, Copy)]
-pub enum Decoded {
-    Fields(Instruction),
-    Refused(Answer),
-}
-
-// The word is 0 where the answer is a refusal.
-#[derive(Clone, Copy)]
-pub struct Encoded {
-    pub answer: Answer,
-    pub word: u32,
 }
 
 // The place of an instruction's row in the table.

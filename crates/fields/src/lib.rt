@@ -1,4 +1,4 @@
-// The fields that each row reads of a word, whether it matches or not.
+// The fields that each row reads of a word, whether it matches or not, and the instruction of a form with these fields.
 #![tactic(auto)]
 
 ghost use Rattle.std.specs.Prelude.{◌≡◌, ◌+◌, ◌*◌, ◌/◌, ◌%◌, ◌^◌};
@@ -7,8 +7,10 @@ ghost use Rattle.logic.specs.Pick.{pick};
 ghost use Rattle.encoding.specs.Instructions.{narrow_size};
 ghost use Rattle.encoding.specs.Rows.{rows};
 ghost use Rattle.encoding.specs.Decode.{read_at};
-ghost use Rattle.encoding.specs.declared.Instruction.TheVariants.{Luti4c, Luti4s};
-ghost use Rattle.fields.specs.Operands.{pext_as, psel_as, narrow_as};
+ghost use Rattle.element.specs.Units.{size_at};
+ghost use Rattle.fields.specs.Operands.{pext_as, psel_as, luti4_as, narrow_as};
+
+use encoding::Instruction;
 
 // PEXT's, whose size is 8 · 2^log.
 #[derive(Clone, Copy)]
@@ -31,13 +33,14 @@ pub struct PselOperands {
     pub pd: u32,
 }
 
-// LUTI4's.
+// LUTI4's; the destinations are `stride` apart, 1 in the consecutive layout and 4 in the strided one.
 #[derive(Clone, Copy)]
 pub struct LutiOperands {
     pub size: u32,
     pub i1: u32,
     pub zn: u32,
     pub zd: u32,
+    pub stride: u32,
 }
 
 // The narrowing words'; the size is the result's.
@@ -51,6 +54,78 @@ pub struct NarrowOperands {
     pub shift: u32,
     pub zn: u32,
     pub zd: u32,
+}
+
+// 0 where the log is no size's.
+fn size_at(log: u32) -> u32
+    ensures { result ≡ size_at log }
+{
+    if log < 4 { 8 << log } else { 0 }
+}
+
+impl From<PextOperands> for Instruction {
+    ghost from_gives = { λ o i. i ≡ pext_as o };
+
+    fn from(o: PextOperands) -> Instruction {
+        Instruction::Pext {
+            size: size_at(o.log),
+            first: o.first,
+            portions: o.portions,
+            counter: o.counter,
+            pd: o.pd,
+        }
+    }
+}
+
+impl From<PselOperands> for Instruction {
+    ghost from_gives = { λ o i. i ≡ psel_as o };
+
+    fn from(o: PselOperands) -> Instruction {
+        Instruction::Psel {
+            size: size_at(o.log),
+            offset: o.offset,
+            index: o.index,
+            pn: o.pn,
+            pm: o.pm,
+            pd: o.pd,
+        }
+    }
+}
+
+impl From<LutiOperands> for Instruction {
+    ghost from_gives = { λ o i. i ≡ luti4_as o };
+
+    fn from(o: LutiOperands) -> Instruction {
+        let LutiOperands {
+            size,
+            i1,
+            zn,
+            zd,
+            ..
+        } = o;
+        if o.stride == 4 {
+            Instruction::Luti4s { size, i1, zn, zd }
+        } else {
+            Instruction::Luti4c { size, i1, zn, zd }
+        }
+    }
+}
+
+impl From<NarrowOperands> for Instruction {
+    ghost from_gives = { λ o i. i ≡ narrow_as o };
+
+    fn from(o: NarrowOperands) -> Instruction {
+        Instruction::Narrow {
+            op: o.op,
+            u: o.u,
+            r: o.r,
+            t: o.t,
+            size: o.size,
+            shift: o.shift,
+            zn: o.zn,
+            zd: o.zd,
+        }
+    }
 }
 
 // PSEL's tszh:tszl.
@@ -136,29 +211,31 @@ pub fn psel(word: u32) -> PselOperands
     }
 }
 
-pub fn luti4c(word: u32) -> LutiOperands
-    ensures { accept (Luti4c result.size result.i1 result.zn result.zd) ≡ read_at rows 3 word }
+// By the row of consecutive destinations, or by that of strided ones.
+pub fn luti4(strided: bool, word: u32) -> LutiOperands
+    ensures row { accept (luti4_as result) ≡ read_at rows (pick strided 4 3) word }
+    ensures stride { result.stride ≡ pick strided 4 1 }
 {
     let size = luti_size(word);
+    let i1 = word / 0x10000 % 2;
+    let zn = word / 32 % 32;
+    if strided {
+        let zd = 16 * (word / 16 % 2) + word % 4;
+        return LutiOperands {
+            size,
+            i1,
+            zn,
+            zd,
+            stride: 4,
+        };
+    }
     let zd = 4 * (word / 4 % 8);
     LutiOperands {
         size,
-        i1: word / 0x10000 % 2,
-        zn: word / 32 % 32,
+        i1,
+        zn,
         zd,
-    }
-}
-
-pub fn luti4s(word: u32) -> LutiOperands
-    ensures { accept (Luti4s result.size result.i1 result.zn result.zd) ≡ read_at rows 4 word }
-{
-    let size = luti_size(word);
-    let zd = 16 * (word / 16 % 2) + word % 4;
-    LutiOperands {
-        size,
-        i1: word / 0x10000 % 2,
-        zn: word / 32 % 32,
-        zd,
+        stride: 1,
     }
 }
 

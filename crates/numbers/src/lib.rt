@@ -9,8 +9,8 @@ ghost use Rattle.encoding.specs.Decode.{decoded_as};
 ghost use Rattle.numbers.specs.Fields.{numbers_of, numbers_into, narrow_at, instruction_at, instruction_of};
 ghost use Rattle.numbers.specs.Claims.{Claims};
 
-use encoding::{Decoded, Instruction, narrow_number};
-use setting::Answer;
+use encoding::{Instruction, narrow_number};
+use setting::Refusal;
 
 fn numbers(instruction: Instruction) -> [u32; 7]
     ensures { result ≡ numbers_of instruction }
@@ -63,21 +63,21 @@ pub fn put(instruction: Instruction, out: &mut [u32])
     out[6] = n[6];
 }
 
-fn luti4(strided: bool, size: u32, i1: u32, zn: u32, zd: u32) -> Decoded
+fn luti4(strided: bool, size: u32, i1: u32, zn: u32, zd: u32) -> Result<Instruction, Refusal>
     ensures { decoded_as result ≡ accept (pick strided (Luti4s size i1 zn zd) (Luti4c size i1 zn zd)) }
 {
     if strided {
-        return Decoded::Fields(Instruction::Luti4s { size, i1, zn, zd });
+        return Ok(Instruction::Luti4s { size, i1, zn, zd });
     }
-    Decoded::Fields(Instruction::Luti4c { size, i1, zn, zd })
+    Ok(Instruction::Luti4c { size, i1, zn, zd })
 }
 
 // The bits are op:U:R:T.
-fn narrow(bits: u32, size: u32, shift: u32, zn: u32, zd: u32) -> Decoded
+fn narrow(bits: u32, size: u32, shift: u32, zn: u32, zd: u32) -> Result<Instruction, Refusal>
     ensures { decoded_as result ≡ narrow_at bits size shift zn zd }
 {
     if bits < 16 {
-        return Decoded::Fields(Instruction::Narrow {
+        return Ok(Instruction::Narrow {
             op: bits / 8 % 2 == 1,
             u: bits / 4 % 2 == 1,
             r: bits / 2 % 2 == 1,
@@ -88,15 +88,15 @@ fn narrow(bits: u32, size: u32, shift: u32, zn: u32, zd: u32) -> Decoded
             zd,
         });
     }
-    Decoded::Refused(Answer::OutOfRange)
+    Err(Refusal::OutOfRange)
 }
 
 // The instruction of a form with these fields; a form has at most six.
-fn named(form: u32, a: u32, b: u32, c: u32, d: u32, e: u32, f: u32) -> Decoded
+fn named(form: u32, a: u32, b: u32, c: u32, d: u32, e: u32, f: u32) -> Result<Instruction, Refusal>
     ensures { decoded_as result ≡ instruction_at form a b c d e f }
 {
     match form {
-        2 => Decoded::Fields(Instruction::Psel {
+        2 => Ok(Instruction::Psel {
             size: a,
             offset: b,
             index: c,
@@ -107,22 +107,22 @@ fn named(form: u32, a: u32, b: u32, c: u32, d: u32, e: u32, f: u32) -> Decoded
         3 => luti4(false, a, b, c, d),
         4 => luti4(true, a, b, c, d),
         6 => narrow(a, b, c, d, e),
-        7 => Decoded::Fields(Instruction::Pext {
+        7 => Ok(Instruction::Pext {
             size: a,
             first: b,
             portions: c,
             counter: d,
             pd: e,
         }),
-        _ => Decoded::Refused(Answer::OutOfRange),
+        _ => Err(Refusal::OutOfRange),
     }
 }
 
-pub fn instruction(fields: &[u32]) -> Decoded
+pub fn instruction(fields: &[u32]) -> Result<Instruction, Refusal>
     ensures { decoded_as result ≡ instruction_of fields.now }
 {
     if fields.len() != 7 {
-        return Decoded::Refused(Answer::OutOfRange);
+        return Err(Refusal::OutOfRange);
     }
     named(
         fields[0], fields[1], fields[2], fields[3], fields[4], fields[5], fields[6],

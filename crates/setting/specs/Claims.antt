@@ -1,7 +1,6 @@
 -- Document 01, "Numbers the bench answers with": what `claims` promises of the numbers.
 use Rattle.std.specs.Prelude.{◌≡◌}
-use Rattle.setting.specs.Numbers.{number_of}
-use Rattle.setting.specs.declared.Answer.{Answer}
+use Rattle.setting.specs.Numbers.{Answer, number_of}
 
 -- no two answers have one number
 abbrev pub NumbersApart : Type 0
