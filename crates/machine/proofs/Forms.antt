@@ -4,11 +4,11 @@ use mathlib.Core.Bool.{Bool, true, false}
 use mathlib.Core.List.{List, [], ◌∷◌}
 use Prim.Native.Nat.{ℕ, zero, suc, ◌-◌, ◌≤◌}
 use native.Mathlib.Omega.{arith}
+use lib.Dec.{eqb}
 use lib.ListN.{length, get_or}
 use Rattle.setting.specs.Allowed.{has_feature}
-use Rattle.setting.specs.Numbers.{Outcome, accept, refuse, number_of}
+use Rattle.setting.specs.Numbers.{Answer, Outcome, accept, refuse, number_of}
 use Rattle.setting.specs.declared.Setting.{Setting}
-use Rattle.setting.specs.declared.Answer.{Answer}
 use Rattle.setting.specs.declared.Feature.TheVariants.{Sve2p1}
 use Rattle.logic.specs.Pick.{pick}
 use Rattle.encoding.specs.Rows.{rows}
@@ -74,16 +74,16 @@ module _ (s : Setting) (w : ℕ) (c : Scalars) (r : Answer) (p p' : List ℕ) wh
       (psel_done z p _ zt c s.vl size offset index pn pm pd x (ready s w 2 _ e z p zt c known) i refl)
 
 module _ (s : Setting) (w : ℕ) (c : Scalars) (r : Answer) (z z' : List ℕ) where
-  -- by either row of it
-  pub luti4_word : (zt : List ℕ) (strided : Bool) (size i1 zn zd : ℕ) → number_of r ≡ pick c.s (pick c.t 0 6) 5
-      → read_at rows (pick strided 4 3) w ≡ accept (pick strided (Luti4s size i1 zn zd) (Luti4c size i1 zn zd)) → z' ≡ if_done (number_of r) (luti4_file s.vl size i1 zn zd (pick strided 4 1) zt z) z
+  -- by either row of it, told apart by the stride
+  pub luti4_word : (zt : List ℕ) (strided : Bool) (size i1 zn zd stride : ℕ) → number_of r ≡ pick c.s (pick c.t 0 6) 5 → stride ≡ pick strided 4 1
+      → read_at rows (pick strided 4 3) w ≡ accept (pick (eqb stride 4) (Luti4s size i1 zn zd) (Luti4c size i1 zn zd)) → z' ≡ if_done (number_of r) (luti4_file s.vl size i1 zn zd stride zt z) z
       → VectorWord (pick strided 4 3) s w c r zt z z'
-  luti4_word zt true size i1 zn zd answer e q p known =
-      on_vectors s w 4 _ e z p zt c known z' _ (number_of r) answer q
-      (luti4s_done z _ p zt c s.vl size i1 zn zd (ready s w 4 _ e z p zt c known) refl)
-  luti4_word zt false size i1 zn zd answer e q p known =
-      on_vectors s w 3 _ e z p zt c known z' _ (number_of r) answer q
-      (luti4c_done z _ p zt c s.vl size i1 zn zd (ready s w 3 _ e z p zt c known) refl)
+  luti4_word zt true size i1 zn zd stride answer k e q p known =
+      on_vectors s w 4 _ (rw k at e) z p zt c known z' _ (number_of r) answer (rw k at q)
+      (luti4s_done z _ p zt c s.vl size i1 zn zd (ready s w 4 _ (rw k at e) z p zt c known) refl)
+  luti4_word zt false size i1 zn zd stride answer k e q p known =
+      on_vectors s w 3 _ (rw k at e) z p zt c known z' _ (number_of r) answer (rw k at q)
+      (luti4c_done z _ p zt c s.vl size i1 zn zd (ready s w 3 _ (rw k at e) z p zt c known) refl)
 
   pub narrow_word_lem : (op u b t : Bool) (size shift zn zd : ℕ) → number_of r ≡ pick c.v 0 4 → read_at rows 5 w ≡ accept (Narrow op u b t size shift zn zd)
       → z' ≡ if_done (number_of r) (narrow_file s.vl op u b t size shift zn zd z) z → TablelessWord 5 s w c r z z'

@@ -2,11 +2,11 @@
 use mathlib.Core.Path.{◌≡◌, refl, sym, ap, ◌∙◌}
 use mathlib.Core.Bool.{true, ◌&&◌}
 use mathlib.Core.List.{List, [], ◌∷◌}
-use Prim.Native.Nat.{ℕ, zero, suc, ◌≤◌}
+use Prim.Native.Nat.{ℕ, zero, suc}
 use native.Mathlib.Omega.{arith}
 use lib.Dec.{eqb, leb}
 use lib.ListN.{length}
-use borrow.Author.Tests.{eqb-true, leb-true}
+use borrow.Author.Tests.{eqb-true}
 use Rattle.setting.specs.Allowed.{length_allowed, features_allowed, allowed_of}
 use Rattle.setting.specs.Numbers.{Outcome, accept, refuse}
 use Rattle.setting.specs.declared.Setting.{Setting}
@@ -22,7 +22,7 @@ use Rattle.machine.specs.Machine.{Machine, machine, advanced, next, flags_of}
 use Rattle.machine.specs.Needs.{need, first_failed}
 use Rattle.machine.specs.Effects.{effect_of}
 use Rattle.machine.specs.Step.{Step, sized, refusal_of, exec_of, after, step_of}
-use Rattle.machine.specs.Private.{Ready, Checked, done_of, executed, executed_of, moved_by}
+use Rattle.machine.specs.Private.{Ready, done_of, executed, executed_of, moved_by}
 use Rattle.machine.specs.declared.Scalars.{Scalars}
 
 -- ---- an instruction that was read

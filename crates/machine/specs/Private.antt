@@ -13,9 +13,8 @@ use Rattle.machine.specs.Needs.{first_failed}
 use Rattle.machine.specs.Effects.{effect_of}
 use Rattle.machine.specs.Step.{Step, sized, step_of, step_as}
 use Rattle.machine.specs.Run.{run_as, moved_on}
-use Rattle.setting.specs.Numbers.{number_of}
+use Rattle.setting.specs.Numbers.{Answer, number_of}
 use Rattle.setting.specs.declared.Setting.{Setting}
-use Rattle.setting.specs.declared.Answer.{Answer}
 use Rattle.machine.specs.declared.Scalars.{Scalars}
 
 unfoldable pub done_of : ℕ → Instruction → Machine → Machine
