@@ -63,14 +63,9 @@ pub(crate) fn luti4<const STRIDED: bool>(
 ) -> Answer
     ensures { VectorWord (pick STRIDED 4 3) setting word scalars result zt.now z.old z.new }
 {
-    let o = if STRIDED {
-        fields::luti4s(word)
-    } else {
-        fields::luti4c(word)
-    };
-    let stride = if STRIDED { 4 } else { 1 };
+    let o = fields::luti4(STRIDED, word);
     words::luti4(
-        z, zt, setting.vl, scalars.s, scalars.t, o.size, o.i1, o.zn, o.zd, stride,
+        z, zt, setting.vl, scalars.s, scalars.t, o.size, o.i1, o.zn, o.zd, o.stride,
     )
 }
 

@@ -14,7 +14,7 @@ ghost use Rattle.machine.specs.Run.{run_of, ran_as, moved_on};
 ghost use Rattle.machine.specs.Private.{Checked, stepped_by, went_as};
 
 use machine::{Ran, Scalars, Stepped};
-use setting::{Answer, Setting};
+use setting::{Answer, Refusal, Setting};
 
 // The same scalars, each taken by itself: where a caller steps again and again, PC is then read as the step before stored it, and
 // not together with its neighbours, for which the processor would wait.
@@ -76,15 +76,15 @@ fn before_any(setting: Setting, z: usize, p: usize, zt: usize, words: usize) -> 
     ensures { number_of result ≡ first_failed (need 1 (allowed_of setting) ∷ need 2 (lengths_are z p zt) ∷ need 8 (nat_le words 256) ∷ []) }
 {
     if !setting::allowed(setting) {
-        return Answer::NotAllowed;
+        return Err(Refusal::NotAllowed);
     }
     if !sized(z, p, zt) {
-        return Answer::WrongLength;
+        return Err(Refusal::WrongLength);
     }
     if words > 256 {
-        return Answer::TooManyWords;
+        return Err(Refusal::TooManyWords);
     }
-    Answer::Done
+    Ok(())
 }
 
 // One word of a run, where the setting is allowed and each file has its length.
@@ -99,14 +99,17 @@ fn step_in_run(
     requires { Checked setting (machine z.old p.old zt.now scalars) }
     ensures { stepped_by result z.new p.new zt.now scalars ≡ step_of setting word (machine z.old p.old zt.now scalars) }
 {
-    match decoder::place(setting.features, word) {
+    let Some(place) = decoder::place(setting.features, word) else {
+        return Err(Refusal::Undefined);
+    };
+    match place {
         0 => forms::pext(p, setting, scalars, false, word),
         1 => forms::pext(p, setting, scalars, true, word),
         2 => forms::psel(p, setting, scalars, word),
         3 => forms::luti4::<false>(z, zt, setting, scalars, word),
         4 => forms::luti4::<true>(z, zt, setting, scalars, word),
         5 => forms::narrow(z, setting, scalars, word),
-        _ => Answer::Undefined,
+        _ => Err(Refusal::Undefined),
     }
 }
 
@@ -125,14 +128,14 @@ fn checked_run(
     let mut held = scalars;
     for n in 0..words.len() {
         let answer = step_in_run(&mut *z, &mut *p, zt, held, setting, words[n]);
-        if setting::number(answer) != 0 {
+        if answer.is_err() {
             return Progress { done: n, answer };
         }
         held = advance(held);
     }
     Progress {
         done: words.len(),
-        answer: Answer::Done,
+        answer: Ok(()),
     }
 }
 
@@ -148,7 +151,7 @@ fn went(
     ensures { went_as (number_of result.answer) result.done z.new p.new zt.now scalars ≡ run_of setting words.now (machine z.old p.old zt.now scalars) }
 {
     let answer = before_any(setting, z.len(), p.len(), zt.len(), words.len());
-    if setting::number(answer) != 0 {
+    if answer.is_err() {
         return Progress { done: 0, answer };
     }
     checked_run(z, p, zt, scalars, setting, words)
