@@ -16,8 +16,8 @@ ghost use Rattle.machine.specs.Private.{Checked, stepped_by, went_as};
 use machine::{Ran, Scalars, Stepped};
 use setting::{Answer, Refusal, Setting};
 
-// The same scalars, each taken by itself: where a caller steps again and again, PC is then read as the step before stored it, and
-// not together with its neighbours, for which the processor would wait.
+// The same scalars, each taken by itself (for speed, not `scalars` as it is): where a caller steps again and again, PC is then read
+// as the step before stored it, and not together with its neighbours, for which the processor would wait.
 fn one_by_one(scalars: Scalars) -> Scalars
     ensures { result ≡ scalars }
 {
@@ -52,7 +52,7 @@ struct Progress {
 
 impl Progress {
     // The scalars after the words that were done.
-    fn moved(self, scalars: Scalars) -> Scalars
+    fn moved_on(self, scalars: Scalars) -> Scalars
         ensures { result ≡ moved_on self.done scalars }
     {
         if self.done == 0 {
@@ -87,7 +87,8 @@ fn before_any(setting: Setting, z: usize, p: usize, zt: usize, words: usize) -> 
     Ok(())
 }
 
-// One word of a run, where the setting is allowed and each file has its length.
+// One word of a run, where the setting is allowed and each file has its length. The files stay three parameters, here and below: a
+// word is lent one of them alone, and `run` and `step`, which README.md names, are lent them so.
 fn step_in_run(
     z: &mut [u8],
     p: &mut [u8],
@@ -172,7 +173,7 @@ pub fn run(
     Ran {
         answer: progress.answer,
         done: progress.done,
-        scalars: progress.moved(scalars),
+        scalars: progress.moved_on(scalars),
     }
 }
 
@@ -192,6 +193,6 @@ pub fn step(
     let progress = went(z, p, zt, held, setting, &words);
     Stepped {
         answer: progress.answer,
-        scalars: progress.moved(held),
+        scalars: progress.moved_on(held),
     }
 }

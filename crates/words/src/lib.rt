@@ -1,5 +1,6 @@
 // A word's operation under the access that it needs, on the file that it is lent: 4, 5 or 6 with the file as it was, or done. The fields
 // come as numbers, and PC is left to the caller.
+// The lists of numbers stay: README.md and docs/landings name this crate's functions, whose callers may be asked for no other type.
 #![tactic(auto)]
 
 mod access;
