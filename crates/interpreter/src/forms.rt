@@ -2,8 +2,9 @@
 // file that it is lent. PC is left to the caller.
 ghost use Rattle.std.specs.Prelude.{◌≡◌, ◌-◌, ◌<◌, ◌≤◌, [], ◌∷◌, slice_index};
 ghost use Rattle.logic.specs.Pick.{pick};
-ghost use Rattle.machine.specs.Private.{PredicateWord, VectorWord, TablelessWord, HasV, HasVS, HasST, HasWV};
+ghost use Rattle.machine.specs.Private.{PredicateWord, VectorWord, TablelessWord};
 
+use machine::Scalars;
 use setting::{Answer, Setting};
 
 // ---- the predicates
@@ -11,80 +12,68 @@ use setting::{Answer, Setting};
 pub(crate) fn pext(
     p: &mut [u8],
     setting: Setting,
-    v: bool,
-    s: bool,
+    scalars: Scalars,
     pair: bool,
     word: u32,
 ) -> Answer
-    ensures { PredicateWord (pick pair 1 0) setting word (HasVS v s) result p.old p.new }
+    ensures { PredicateWord (pick pair 1 0) setting word scalars result p.old p.new }
 {
     let o = fields::pext(pair, word);
     words::pext(
-        p, setting, v, s, o.log, o.first, o.portions, o.counter, o.pd,
+        p, setting, scalars.v, scalars.s, o.log, o.first, o.portions, o.counter, o.pd,
     )
 }
 
 // W12 to W15, chosen without a jump.
-fn index_register(w12: u32, w13: u32, w14: u32, w15: u32, number: u32) -> u32
+fn index_register(scalars: Scalars, number: u32) -> u32
     requires { (12 ≤ number) × (number < 16) }
-    ensures { result ≡ slice_index (w12 ∷ w13 ∷ w14 ∷ w15 ∷ []) (number - 12) }
+    ensures { result ≡ slice_index (scalars.w12 ∷ scalars.w13 ∷ scalars.w14 ∷ scalars.w15 ∷ []) (number - 12) }
 {
-    let low = if number == 13 { w13 } else { w12 };
-    let high = if number == 15 { w15 } else { w14 };
+    let low = if number == 13 {
+        scalars.w13
+    } else {
+        scalars.w12
+    };
+    let high = if number == 15 {
+        scalars.w15
+    } else {
+        scalars.w14
+    };
     if number < 14 { low } else { high }
 }
 
-pub(crate) fn psel(
-    p: &mut [u8],
-    setting: Setting,
-    w12: u32,
-    w13: u32,
-    w14: u32,
-    w15: u32,
-    v: bool,
-    word: u32,
-) -> Answer
-    ensures { PredicateWord 2 setting word (HasWV w12 w13 w14 w15 v) result p.old p.new }
+pub(crate) fn psel(p: &mut [u8], setting: Setting, scalars: Scalars, word: u32) -> Answer
+    ensures { PredicateWord 2 setting word scalars result p.old p.new }
 {
     let o = fields::psel(word);
-    let w = index_register(w12, w13, w14, w15, o.index);
-    words::psel(p, setting.vl, v, w, o.log, o.offset, o.pn, o.pm, o.pd)
+    let w = index_register(scalars, o.index);
+    words::psel(
+        p, setting.vl, scalars.v, w, o.log, o.offset, o.pn, o.pm, o.pd,
+    )
 }
 
 // ---- the vectors
-pub(crate) fn luti4c(
+// By the row of consecutive destinations, or by that of each fourth register.
+pub(crate) fn luti4<const STRIDED: bool>(
     z: &mut [u8],
     zt: &[u8],
     setting: Setting,
-    s: bool,
-    t: bool,
+    scalars: Scalars,
     word: u32,
 ) -> Answer
-    ensures { VectorWord 3 setting word (HasST s t) result zt.now z.old z.new }
+    ensures { VectorWord (pick STRIDED 4 3) setting word scalars result zt.now z.old z.new }
 {
-    let o = fields::luti4c(word);
-    words::luti4(z, zt, setting.vl, s, t, o.size, o.i1, o.zn, o.zd, 1)
+    let o = fields::luti4(STRIDED, word);
+    words::luti4(
+        z, zt, setting.vl, scalars.s, scalars.t, o.size, o.i1, o.zn, o.zd, o.stride,
+    )
 }
 
-pub(crate) fn luti4s(
-    z: &mut [u8],
-    zt: &[u8],
-    setting: Setting,
-    s: bool,
-    t: bool,
-    word: u32,
-) -> Answer
-    ensures { VectorWord 4 setting word (HasST s t) result zt.now z.old z.new }
-{
-    let o = fields::luti4s(word);
-    words::luti4(z, zt, setting.vl, s, t, o.size, o.i1, o.zn, o.zd, 4)
-}
-
-pub(crate) fn narrow(z: &mut [u8], setting: Setting, v: bool, word: u32) -> Answer
-    ensures { TablelessWord 5 setting word (HasV v) result z.old z.new }
+pub(crate) fn narrow(z: &mut [u8], setting: Setting, scalars: Scalars, word: u32) -> Answer
+    ensures { TablelessWord 5 setting word scalars result z.old z.new }
 {
     let o = fields::narrow(word);
     words::narrow(
-        z, setting.vl, v, o.op, o.u, o.r, o.t, o.size, o.shift, o.zn, o.zd,
+        z, setting.vl, scalars.v, o.op, o.u, o.r, o.t, o.size, o.shift, o.zn, o.zd,
     )
 }

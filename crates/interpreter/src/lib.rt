@@ -14,10 +14,10 @@ ghost use Rattle.machine.specs.Run.{run_of, ran_as, moved_on};
 ghost use Rattle.machine.specs.Private.{Checked, stepped_by, went_as};
 
 use machine::{Ran, Scalars, Stepped};
-use setting::{Answer, Setting};
+use setting::{Answer, Refusal, Setting};
 
-// The same scalars, each taken by itself: where a caller steps again and again, PC is then read as the step before stored it, and
-// not together with its neighbours, for which the processor would wait.
+// The same scalars, each taken by itself (for speed, not `scalars` as it is): where a caller steps again and again, PC is then read
+// as the step before stored it, and not together with its neighbours, for which the processor would wait.
 fn one_by_one(scalars: Scalars) -> Scalars
     ensures { result ≡ scalars }
 {
@@ -36,22 +36,33 @@ fn one_by_one(scalars: Scalars) -> Scalars
 fn advance(scalars: Scalars) -> Scalars
     ensures { result ≡ advanced scalars }
 {
-    let mut next = scalars;
-    next.pc = scalars.pc.wrapping_add(4);
-    next
+    Scalars {
+        pc: scalars.pc.wrapping_add(4),
+        ..scalars
+    }
 }
 
-// After so many words that were done.
-fn moved_on(scalars: Scalars, done: u32) -> Scalars
-    requires { done ≤ 256 }
-    ensures { result ≡ moved_on done scalars }
-{
-    if done == 0 {
-        return scalars;
+// How far a stretch of at most 256 words came: how many were done, and the answer that it ended with.
+#[derive(Clone, Copy)]
+struct Progress {
+    done: usize,
+    answer: Answer,
+    ghost short: { done ≤ 256 },
+}
+
+impl Progress {
+    // The scalars after the words that were done.
+    fn moved_on(self, scalars: Scalars) -> Scalars
+        ensures { result ≡ moved_on self.done scalars }
+    {
+        if self.done == 0 {
+            return scalars;
+        }
+        Scalars {
+            pc: scalars.pc.wrapping_add(4 * (self.done as u64)),
+            ..scalars
+        }
     }
-    let mut next = scalars;
-    next.pc = scalars.pc.wrapping_add(4 * (done as u64));
-    next
 }
 
 fn sized(z: usize, p: usize, zt: usize) -> bool
@@ -65,18 +76,19 @@ fn before_any(setting: Setting, z: usize, p: usize, zt: usize, words: usize) -> 
     ensures { number_of result ≡ first_failed (need 1 (allowed_of setting) ∷ need 2 (lengths_are z p zt) ∷ need 8 (nat_le words 256) ∷ []) }
 {
     if !setting::allowed(setting) {
-        return Answer::NotAllowed;
+        return Err(Refusal::NotAllowed);
     }
     if !sized(z, p, zt) {
-        return Answer::WrongLength;
+        return Err(Refusal::WrongLength);
     }
     if words > 256 {
-        return Answer::TooManyWords;
+        return Err(Refusal::TooManyWords);
     }
-    Answer::Done
+    Ok(())
 }
 
-// One word of a run, where the setting is allowed and each file has its length.
+// One word of a run, where the setting is allowed and each file has its length. The files stay three parameters, here and below: a
+// word is lent one of them alone, and `run` and `step`, which README.md names, are lent them so.
 fn step_in_run(
     z: &mut [u8],
     p: &mut [u8],
@@ -88,28 +100,21 @@ fn step_in_run(
     requires { Checked setting (machine z.old p.old zt.now scalars) }
     ensures { stepped_by result z.new p.new zt.now scalars ≡ step_of setting word (machine z.old p.old zt.now scalars) }
 {
-    let place = decoder::place(setting.features, word);
+    let Some(place) = decoder::place(setting.features, word) else {
+        return Err(Refusal::Undefined);
+    };
     match place {
-        0 => forms::pext(p, setting, scalars.v, scalars.s, false, word),
-        1 => forms::pext(p, setting, scalars.v, scalars.s, true, word),
-        2 => forms::psel(
-            p,
-            setting,
-            scalars.w12,
-            scalars.w13,
-            scalars.w14,
-            scalars.w15,
-            scalars.v,
-            word,
-        ),
-        3 => forms::luti4c(z, zt, setting, scalars.s, scalars.t, word),
-        4 => forms::luti4s(z, zt, setting, scalars.s, scalars.t, word),
-        5 => forms::narrow(z, setting, scalars.v, word),
-        _ => Answer::Undefined,
+        0 => forms::pext(p, setting, scalars, false, word),
+        1 => forms::pext(p, setting, scalars, true, word),
+        2 => forms::psel(p, setting, scalars, word),
+        3 => forms::luti4::<false>(z, zt, setting, scalars, word),
+        4 => forms::luti4::<true>(z, zt, setting, scalars, word),
+        5 => forms::narrow(z, setting, scalars, word),
+        _ => Err(Refusal::Undefined),
     }
 }
 
-// The words from the first, up to one that is refused; how many were done is left in `done`.
+// The words from the first, up to one that is refused.
 fn checked_run(
     z: &mut [u8],
     p: &mut [u8],
@@ -117,27 +122,25 @@ fn checked_run(
     scalars: Scalars,
     setting: Setting,
     words: &[u32],
-    done: &mut u32,
-) -> Answer
+) -> Progress
     requires { Checked setting (machine z.old p.old zt.now scalars) × (length words.now ≤ 256) }
-    ensures { (went_as (number_of result) done.new z.new p.new zt.now scalars ≡ steps (refusal_of setting) (exec_of setting) words.now 0 (machine z.old p.old zt.now scalars)) × (done.new ≤ 256) }
+    ensures { went_as (number_of result.answer) result.done z.new p.new zt.now scalars ≡ steps (refusal_of setting) (exec_of setting) words.now 0 (machine z.old p.old zt.now scalars) }
 {
     let mut held = scalars;
-    let mut n: u32 = 0;
-    while (n as usize) < words.len() {
-        let answer = step_in_run(&mut *z, &mut *p, zt, held, setting, words[n as usize]);
-        if setting::number(answer) != 0 {
-            *done = n;
-            return answer;
+    for n in 0..words.len() {
+        let answer = step_in_run(&mut *z, &mut *p, zt, held, setting, words[n]);
+        if answer.is_err() {
+            return Progress { done: n, answer };
         }
         held = advance(held);
-        n += 1;
     }
-    *done = n;
-    Answer::Done
+    Progress {
+        done: words.len(),
+        answer: Ok(()),
+    }
 }
 
-// At most 256 words, stepped one after the other; it stops before the first that is refused. How many were done is left in `done`.
+// At most 256 words, stepped one after the other; it stops before the first that is refused.
 fn went(
     z: &mut [u8],
     p: &mut [u8],
@@ -145,16 +148,14 @@ fn went(
     scalars: Scalars,
     setting: Setting,
     words: &[u32],
-    done: &mut u32,
-) -> Answer
-    ensures { (went_as (number_of result) done.new z.new p.new zt.now scalars ≡ run_of setting words.now (machine z.old p.old zt.now scalars)) × (done.new ≤ 256) }
+) -> Progress
+    ensures { went_as (number_of result.answer) result.done z.new p.new zt.now scalars ≡ run_of setting words.now (machine z.old p.old zt.now scalars) }
 {
-    let refused = before_any(setting, z.len(), p.len(), zt.len(), words.len());
-    if setting::number(refused) != 0 {
-        *done = 0;
-        return refused;
+    let answer = before_any(setting, z.len(), p.len(), zt.len(), words.len());
+    if answer.is_err() {
+        return Progress { done: 0, answer };
     }
-    checked_run(z, p, zt, scalars, setting, words, done)
+    checked_run(z, p, zt, scalars, setting, words)
 }
 
 // A stretch of words. ZT0 is lent for words to come that write it; today it stays.
@@ -168,12 +169,11 @@ pub fn run(
 ) -> Ran
     ensures { ran_as result z.new p.new zt.new ≡ run_of setting words.now (machine z.old p.old zt.old scalars) }
 {
-    let mut done: u32 = 0;
-    let answer = went(z, p, zt, scalars, setting, words, &mut done);
+    let progress = went(z, p, zt, scalars, setting, words);
     Ran {
-        answer,
-        done: done as usize,
-        scalars: moved_on(scalars, done),
+        answer: progress.answer,
+        done: progress.done,
+        scalars: progress.moved_on(scalars),
     }
 }
 
@@ -189,11 +189,10 @@ pub fn step(
     ensures { stepped_as result z.new p.new zt.new ≡ step_of setting word (machine z.old p.old zt.old scalars) }
 {
     let words = [word];
-    let mut done: u32 = 0;
     let held = one_by_one(scalars);
-    let answer = went(z, p, zt, held, setting, &words, &mut done);
+    let progress = went(z, p, zt, held, setting, &words);
     Stepped {
-        answer,
-        scalars: moved_on(held, done),
+        answer: progress.answer,
+        scalars: progress.moved_on(held),
     }
 }

@@ -1,14 +1,14 @@
 -- A word of a known row leaves what a step does: its answer is its needs', and its file the leaf's, or as it was where it is refused.
 use mathlib.Core.Path.{◌≡◌, refl, sym, ap, ◌∙◌}
-use mathlib.Core.Bool.{Bool}
+use mathlib.Core.Bool.{Bool, true, false}
 use mathlib.Core.List.{List, [], ◌∷◌}
 use Prim.Native.Nat.{ℕ, zero, suc, ◌-◌, ◌≤◌}
 use native.Mathlib.Omega.{arith}
+use lib.Dec.{eqb}
 use lib.ListN.{length, get_or}
 use Rattle.setting.specs.Allowed.{has_feature}
-use Rattle.setting.specs.Numbers.{Outcome, accept, refuse, number_of}
+use Rattle.setting.specs.Numbers.{Answer, Outcome, accept, refuse, number_of}
 use Rattle.setting.specs.declared.Setting.{Setting}
-use Rattle.setting.specs.declared.Answer.{Answer}
 use Rattle.setting.specs.declared.Feature.TheVariants.{Sve2p1}
 use Rattle.logic.specs.Pick.{pick}
 use Rattle.encoding.specs.Rows.{rows}
@@ -25,7 +25,7 @@ use Rattle.machine.specs.Machine.{Machine, machine, flags_of}
 use Rattle.machine.specs.Needs.{need, first_failed, if_done}
 use Rattle.machine.specs.Effects.{effect_of}
 use Rattle.machine.specs.Step.{Step, step_of, step_as}
-use Rattle.machine.specs.Private.{Ready, Known, PredicateWord, VectorWord, TablelessWord, HasV, HasVS, HasST, HasWV, done_of, executed_of, moved_by}
+use Rattle.machine.specs.Private.{Ready, Known, PredicateWord, VectorWord, TablelessWord, done_of, executed_of, moved_by}
 use Rattle.machine.specs.declared.Scalars.{Scalars}
 use Rattle.machine.proofs.Steps.{refused_for, done_for, step_executes, step_ready, step_undefined}
 use Rattle.machine.proofs.Operations.{pext_done, psel_done, luti4c_done, luti4s_done, narrow_done}
@@ -59,39 +59,34 @@ module _ (s : Setting) (w k : ℕ) (i : Instruction) (read : read_at rows k w �
   on_vectors z' done (suc n) a q d = rw q (refused_for s i z p zt c (suc n) a (λ e. omega arith) ∙ executes)
 
 -- ---- each form
-module _ (s : Setting) (w : ℕ) (r : Answer) (p p' : List ℕ) where
+module _ (s : Setting) (w : ℕ) (c : Scalars) (r : Answer) (p p' : List ℕ) where
   -- by either row of it
-  pub pext_word : (k : ℕ) (v f : Bool) (size first portions counter pd : ℕ) → number_of r ≡ first_failed (pick (has_feature s.features Sve2p1) (need 4 v) (need 5 f) ∷ [])
-      → read_at rows k w ≡ accept (Pext size first portions counter pd) → p' ≡ if_done (number_of r) (pext_leaves s.vl size first portions counter pd p) p → PredicateWord k s w (HasVS v f) r p p'
-  pext_word k v f size first portions counter pd answer e q z zt c has known =
-      on_predicates s w k _ e z p zt c known p' _ (number_of r) (rw (has.0, has.1) answer) q
+  pub pext_word : (k size first portions counter pd : ℕ) → number_of r ≡ first_failed (pick (has_feature s.features Sve2p1) (need 4 c.v) (need 5 c.s) ∷ [])
+      → read_at rows k w ≡ accept (Pext size first portions counter pd) → p' ≡ if_done (number_of r) (pext_leaves s.vl size first portions counter pd p) p → PredicateWord k s w c r p p'
+  pext_word k size first portions counter pd answer e q z zt known =
+      on_predicates s w k _ e z p zt c known p' _ (number_of r) answer q
       (pext_done z p _ zt c s.vl size first portions counter pd (ready s w k _ e z p zt c known) refl)
 
-  pub psel_word : (w12 w13 w14 w15 : ℕ) (v : Bool) (x size offset index pn pm pd : ℕ) → number_of r ≡ pick v 0 4 → read_at rows 2 w ≡ accept (Psel size offset index pn pm pd)
-      → x ≡ get_or (w12 ∷ w13 ∷ w14 ∷ w15 ∷ []) (index - 12) 0 → p' ≡ if_done (number_of r) (psel_leaves s.vl size x offset pn pm pd p) p → PredicateWord 2 s w (HasWV w12 w13 w14 w15 v) r p p'
-  psel_word w12 w13 w14 w15 v x size offset index pn pm pd answer e i q z zt c has known =
-      on_predicates s w 2 _ e z p zt c known p' _ (number_of r) (rw has.4 answer) q
-      (psel_done z p _ zt c s.vl size offset index pn pm pd x (ready s w 2 _ e z p zt c known) (rw (has.0, has.1, has.2, has.3) i) refl)
+  pub psel_word : (x size offset index pn pm pd : ℕ) → number_of r ≡ pick c.v 0 4 → read_at rows 2 w ≡ accept (Psel size offset index pn pm pd)
+      → x ≡ get_or (c.w12 ∷ c.w13 ∷ c.w14 ∷ c.w15 ∷ []) (index - 12) 0 → p' ≡ if_done (number_of r) (psel_leaves s.vl size x offset pn pm pd p) p → PredicateWord 2 s w c r p p'
+  psel_word x size offset index pn pm pd answer e i q z zt known =
+      on_predicates s w 2 _ e z p zt c known p' _ (number_of r) answer q
+      (psel_done z p _ zt c s.vl size offset index pn pm pd x (ready s w 2 _ e z p zt c known) i refl)
 
-module _ (s : Setting) (w : ℕ) (r : Answer) (z z' : List ℕ) where
-  module _ (zt : List ℕ) (f t : Bool) (size i1 zn zd : ℕ) (answer : number_of r ≡ pick f (pick t 0 6) 5) where
-    pub luti4c_word : read_at rows 3 w ≡ accept (Luti4c size i1 zn zd) → z' ≡ if_done (number_of r) (luti4_file s.vl size i1 zn zd 1 zt z) z → VectorWord 3 s w (HasST f t) r zt z z'
-    luti4c_word e q p c has known =
-        on_vectors s w 3 _ e z p zt c known z' _ (number_of r) (rw (has.0, has.1) answer) q
-        (luti4c_done z _ p zt c s.vl size i1 zn zd (ready s w 3 _ e z p zt c known) refl)
+module _ (s : Setting) (w : ℕ) (c : Scalars) (r : Answer) (z z' : List ℕ) where
+  -- by either row of it, told apart by the stride
+  pub luti4_word : (zt : List ℕ) (strided : Bool) (size i1 zn zd stride : ℕ) → number_of r ≡ pick c.s (pick c.t 0 6) 5 → stride ≡ pick strided 4 1
+      → read_at rows (pick strided 4 3) w ≡ accept (pick (eqb stride 4) (Luti4s size i1 zn zd) (Luti4c size i1 zn zd)) → z' ≡ if_done (number_of r) (luti4_file s.vl size i1 zn zd stride zt z) z
+      → VectorWord (pick strided 4 3) s w c r zt z z'
+  luti4_word zt true size i1 zn zd stride answer k e q p known =
+      on_vectors s w 4 _ (rw k at e) z p zt c known z' _ (number_of r) answer (rw k at q)
+      (luti4s_done z _ p zt c s.vl size i1 zn zd (ready s w 4 _ (rw k at e) z p zt c known) refl)
+  luti4_word zt false size i1 zn zd stride answer k e q p known =
+      on_vectors s w 3 _ (rw k at e) z p zt c known z' _ (number_of r) answer (rw k at q)
+      (luti4c_done z _ p zt c s.vl size i1 zn zd (ready s w 3 _ (rw k at e) z p zt c known) refl)
 
-    pub luti4s_word : read_at rows 4 w ≡ accept (Luti4s size i1 zn zd) → z' ≡ if_done (number_of r) (luti4_file s.vl size i1 zn zd 4 zt z) z → VectorWord 4 s w (HasST f t) r zt z z'
-    luti4s_word e q p c has known =
-        on_vectors s w 4 _ e z p zt c known z' _ (number_of r) (rw (has.0, has.1) answer) q
-        (luti4s_done z _ p zt c s.vl size i1 zn zd (ready s w 4 _ e z p zt c known) refl)
-
-  pub narrow_word_lem : (v op u b t : Bool) (size shift zn zd : ℕ) → number_of r ≡ pick v 0 4 → read_at rows 5 w ≡ accept (Narrow op u b t size shift zn zd)
-      → z' ≡ if_done (number_of r) (narrow_file s.vl op u b t size shift zn zd z) z → TablelessWord 5 s w (HasV v) r z z'
-  narrow_word_lem v op u b t size shift zn zd answer e q zt p c has known =
-      on_vectors s w 5 _ e z p zt c known z' _ (number_of r) (rw has answer) q
+  pub narrow_word_lem : (op u b t : Bool) (size shift zn zd : ℕ) → number_of r ≡ pick c.v 0 4 → read_at rows 5 w ≡ accept (Narrow op u b t size shift zn zd)
+      → z' ≡ if_done (number_of r) (narrow_file s.vl op u b t size shift zn zd z) z → TablelessWord 5 s w c r z z'
+  narrow_word_lem op u b t size shift zn zd answer e q zt p known =
+      on_vectors s w 5 _ e z p zt c known z' _ (number_of r) answer q
       (narrow_done z _ p zt c s.vl op u b t size shift zn zd (ready s w 5 _ e z p zt c known) refl)
-
--- ---- what is left of a file by an answer that is not 0
-pub kept : (n : ℕ) (done before : List ℕ) → (n ≡ 0 → ⊥) → before ≡ if_done n done before
-kept zero done before ne = absurd (ne refl)
-kept (suc n) done before ne = refl

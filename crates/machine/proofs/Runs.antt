@@ -9,7 +9,7 @@ use lib.Seq.{drop-cons}
 use Rattle.setting.specs.declared.Setting.{Setting}
 use Rattle.order.specs.Steps.{Ended, steps}
 use Rattle.machine.specs.Machine.{Machine, machine, advanced}
-use Rattle.machine.specs.Step.{Step, refusal_of, exec_of, after, step_of}
+use Rattle.machine.specs.Step.{Step, refusal_of, exec_of, step_of}
 use Rattle.machine.specs.Run.{refused_before, undone, begun, run_of, moved_on}
 use Rattle.machine.specs.Private.{Checked, moved_by}
 use Rattle.machine.specs.declared.Scalars.{Scalars}

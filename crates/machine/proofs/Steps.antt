@@ -2,11 +2,11 @@
 use mathlib.Core.Path.{◌≡◌, refl, sym, ap, ◌∙◌}
 use mathlib.Core.Bool.{true, ◌&&◌}
 use mathlib.Core.List.{List, [], ◌∷◌}
-use Prim.Native.Nat.{ℕ, zero, suc, ◌≤◌}
+use Prim.Native.Nat.{ℕ, zero, suc}
 use native.Mathlib.Omega.{arith}
 use lib.Dec.{eqb, leb}
 use lib.ListN.{length}
-use borrow.Author.Tests.{eqb-true, leb-true}
+use borrow.Author.Tests.{eqb-true}
 use Rattle.setting.specs.Allowed.{length_allowed, features_allowed, allowed_of}
 use Rattle.setting.specs.Numbers.{Outcome, accept, refuse}
 use Rattle.setting.specs.declared.Setting.{Setting}
@@ -22,7 +22,7 @@ use Rattle.machine.specs.Machine.{Machine, machine, advanced, next, flags_of}
 use Rattle.machine.specs.Needs.{need, first_failed}
 use Rattle.machine.specs.Effects.{effect_of}
 use Rattle.machine.specs.Step.{Step, sized, refusal_of, exec_of, after, step_of}
-use Rattle.machine.specs.Private.{Ready, Checked, done_of, executed, executed_of, moved_by}
+use Rattle.machine.specs.Private.{Ready, done_of, executed, executed_of, moved_by}
 use Rattle.machine.specs.declared.Scalars.{Scalars}
 
 -- ---- an instruction that was read
@@ -36,15 +36,6 @@ module _ (s : Setting) (i : Instruction) (z p zt : List ℕ) (c : Scalars) where
       → ◌≡◌ {A = Step} (record { number = 0; left = machine z' p' zt (advanced c) }) (executed_of s i (machine z p zt c))
   unfolding executed_of next
   done_for z' p' e q = ap (λ (x : Machine). record { number = 0; left = next x }) q ∙ ap (λ (n : ℕ). executed n s.vl i (machine z p zt c)) e
-
--- ---- before a word: what is refused before any of some words
-pub checked_before : (s : Setting) (m : Machine) (n : ℕ) → 0 ≡ first_failed (need 1 (allowed_of s) ∷ need 2 (sized m) ∷ need 8 (leb n 256) ∷ []) → Checked s m × (n ≤ 256)
-checked_before s m n e =
-    decide (allowed_of s)
-    (λ a. decide (sized m)
-    (λ h. decide (leb n 256) (λ l. (record { allowed = a; files = h }, leb-true n 256 l)) (λ l. absurd (omega (arith, rw (a, h, l) at e))))
-    (λ h. absurd (omega (arith, rw (a, h) at e))))
-    (λ a. absurd (omega (arith, rw a at e)))
 
 -- ---- a word
 module _ (s : Setting) (w : ℕ) (m : Machine) where

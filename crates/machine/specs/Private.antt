@@ -1,5 +1,5 @@
 -- What the private functions go by, here and in `interpreter`: an instruction's new contents put into a machine, PC apart.
-use Rattle.std.specs.Prelude.{◌≡◌, Bool, true, List, ℕ, zero, suc}
+use Rattle.std.specs.Prelude.{◌≡◌, true, List, ℕ, zero, suc}
 use Rattle.setting.specs.Allowed.{length_allowed, allowed_of}
 use Rattle.order.specs.Steps.{Ended}
 use Rattle.element.specs.Files.{vector_file, predicate_file, table_file}
@@ -13,9 +13,8 @@ use Rattle.machine.specs.Needs.{first_failed}
 use Rattle.machine.specs.Effects.{effect_of}
 use Rattle.machine.specs.Step.{Step, sized, step_of, step_as}
 use Rattle.machine.specs.Run.{run_as, moved_on}
-use Rattle.setting.specs.Numbers.{number_of}
+use Rattle.setting.specs.Numbers.{Answer, number_of}
 use Rattle.setting.specs.declared.Setting.{Setting}
-use Rattle.setting.specs.declared.Answer.{Answer}
 use Rattle.machine.specs.declared.Scalars.{Scalars}
 
 unfoldable pub done_of : ℕ → Instruction → Machine → Machine
@@ -59,25 +58,13 @@ stepped_by a z p zt c = step_as (number_of a) z p zt (moved_by (number_of a) c)
 abbrev pub went_as : ℕ → ℕ → List ℕ → List ℕ → List ℕ → Scalars → Ended Machine
 went_as a n z p zt c = run_as a n z p zt (moved_on n c)
 
--- ---- a word that is lent one file: its answer and that file are the step's on every machine that has the file and the scalars asked for
-abbrev pub PredicateWord : ℕ → Setting → ℕ → (Scalars → Type 0) → Answer → List ℕ → List ℕ → Type 0
-PredicateWord k s w Has r p p' = (z zt : List ℕ) (c : Scalars) → Has c → Known k s w (machine z p zt c) → stepped_by r z p' zt c ≡ step_of s w (machine z p zt c)
+-- ---- a word that is lent one file: its answer and that file are the step's, whatever the other files are
+abbrev pub PredicateWord : ℕ → Setting → ℕ → Scalars → Answer → List ℕ → List ℕ → Type 0
+PredicateWord k s w c r p p' = (z zt : List ℕ) → Known k s w (machine z p zt c) → stepped_by r z p' zt c ≡ step_of s w (machine z p zt c)
 
-abbrev pub VectorWord : ℕ → Setting → ℕ → (Scalars → Type 0) → Answer → List ℕ → List ℕ → List ℕ → Type 0
-VectorWord k s w Has r zt z z' = (p : List ℕ) (c : Scalars) → Has c → Known k s w (machine z p zt c) → stepped_by r z' p zt c ≡ step_of s w (machine z p zt c)
+abbrev pub VectorWord : ℕ → Setting → ℕ → Scalars → Answer → List ℕ → List ℕ → List ℕ → Type 0
+VectorWord k s w c r zt z z' = (p : List ℕ) → Known k s w (machine z p zt c) → stepped_by r z' p zt c ≡ step_of s w (machine z p zt c)
 
 -- one that reads no table
-abbrev pub TablelessWord : ℕ → Setting → ℕ → (Scalars → Type 0) → Answer → List ℕ → List ℕ → Type 0
-TablelessWord k s w Has r z z' = (zt : List ℕ) → VectorWord k s w Has r zt z z'
-
-abbrev pub HasV : Bool → Scalars → Type 0
-HasV v c = c.v ≡ v
-
-abbrev pub HasVS : Bool → Bool → Scalars → Type 0
-HasVS v s c = (c.v ≡ v) × (c.s ≡ s)
-
-abbrev pub HasST : Bool → Bool → Scalars → Type 0
-HasST s t c = (c.s ≡ s) × (c.t ≡ t)
-
-abbrev pub HasWV : ℕ → ℕ → ℕ → ℕ → Bool → Scalars → Type 0
-HasWV w12 w13 w14 w15 v c = (c.w12 ≡ w12) × (c.w13 ≡ w13) × (c.w14 ≡ w14) × (c.w15 ≡ w15) × (c.v ≡ v)
+abbrev pub TablelessWord : ℕ → Setting → ℕ → Scalars → Answer → List ℕ → List ℕ → Type 0
+TablelessWord k s w c r z z' = (zt : List ℕ) → VectorWord k s w c r zt z z'

@@ -1,5 +1,6 @@
 // A word's operation under the access that it needs, on the file that it is lent: 4, 5 or 6 with the file as it was, or done. The fields
 // come as numbers, and PC is left to the caller.
+// The lists of numbers stay: README.md and docs/landings name this crate's functions, whose callers may be asked for no other type.
 #![tactic(auto)]
 
 mod access;
@@ -32,11 +33,9 @@ pub fn pext(
     ensures answer { number_of result ≡ first_failed (pick (has_feature setting.features Sve2p1) (need 4 v) (need 5 s) ∷ []) }
     ensures file { p.new ≡ if_done (number_of result) (pext_leaves setting.vl (size_at log) first portions pn pd p.old) p.old }
 {
-    if !access::open(setting.features, v, s) {
-        return access::predicates(setting.features, v, s);
-    }
+    access::predicates(setting.features, v, s)?;
     pext::pext(p, setting.vl, log, first, portions, pn, pd);
-    Answer::Done
+    Ok(())
 }
 
 pub fn psel(
@@ -53,12 +52,9 @@ pub fn psel(
     ensures answer { number_of result ≡ pick v 0 4 }
     ensures file { p.new ≡ if_done (number_of result) (psel_leaves vl (size_at log) w offset pn pm pd p.old) p.old }
 {
-    let answer = access::vectors(v);
-    if setting::number(answer) != 0 {
-        return answer;
-    }
+    access::vectors(v)?;
     psel::psel(p, vl, log, w, offset, pn, pm, pd);
-    Answer::Done
+    Ok(())
 }
 
 pub fn luti4(
@@ -76,11 +72,9 @@ pub fn luti4(
     ensures answer { number_of result ≡ pick s (pick t 0 6) 5 }
     ensures file { z.new ≡ if_done (number_of result) (luti4_file vl size i1 zn first stride zt.now z.old) z.old }
 {
-    if !(s & t) {
-        return access::table(s, t);
-    }
+    access::table(s, t)?;
     lookup::luti4(z, zt, vl, size, i1, zn, first, stride);
-    Answer::Done
+    Ok(())
 }
 
 pub fn narrow(
@@ -99,10 +93,7 @@ pub fn narrow(
     ensures answer { number_of result ≡ pick v 0 4 }
     ensures file { z.new ≡ if_done (number_of result) (narrow_file vl op u r t size shift zn zd z.old) z.old }
 {
-    let answer = access::vectors(v);
-    if setting::number(answer) != 0 {
-        return answer;
-    }
+    access::vectors(v)?;
     narrow::narrow(z, vl, op, u, r, t, size, shift, zn, zd);
-    Answer::Done
+    Ok(())
 }
