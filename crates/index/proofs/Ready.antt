@@ -1,5 +1,5 @@
--- What the test before the index unit says of VL and size, and the unit's numbers where it says yes and where it says no.
-use Rattle.std.proofs.Common.{◌≡◌, ℕ, ◌+◌, ◌-◌, ◌/◌, ◌%◌, ◌^◌, ◌<◌, true, false, sym, ◌∙◌, mod-lt, ltb-true, lt-ltb}
+-- What the test before the index unit says of VL and size, and the unit's numbers where it says yes.
+use Rattle.std.proofs.Common.{◌≡◌, ℕ, ◌+◌, ◌-◌, ◌/◌, ◌%◌, ◌^◌, ◌<◌, true, sym, ◌∙◌, mod-lt, ltb-true, lt-ltb}
 use Rattle.setting.specs.Allowed.{length_allowed}
 use Rattle.logic.specs.Pick.{pick}
 use Rattle.element.specs.Size.{is_size}
@@ -24,9 +24,6 @@ pub numbers : (vl log w offset s m i : ℕ) → has_unit vl (size_at log) ≡ tr
     → record { sum = s; mask = m; index = i } ≡ pick (has_unit vl (size_at log)) (unit_of vl (size_at log) w offset) no_unit
 unfolding adder_sum index_mask index_of
 numbers vl log w offset s m i h a b c = rw (h, elements vl (at_log log (ready vl log h).0), a, b, c)
-
-pub none : (vl log w offset : ℕ) → has_unit vl (size_at log) ≡ false → no_unit ≡ pick (has_unit vl (size_at log)) (unit_of vl (size_at log) w offset) no_unit
-none vl log w offset h = rw h
 
 -- the index is an element's
 pub index_below : (vl log sum : ℕ) → log < 4 → length_allowed vl ≡ true → index_of vl (size_at log) sum < vl / 8 / 2 ^ log

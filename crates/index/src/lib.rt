@@ -30,7 +30,7 @@ fn index(vl: u32, z: u32, w: u32, offset: u32) -> u32
     requires { (z < 4) × (length_allowed vl ≡ true) }
     ensures { (result ≡ (w + offset) % (vl / 8 / 2 ^ z)) × (result < vl / 8 / 2 ^ z) }
 {
-    std::num::wrapping_add_u32(w, offset) & mask(vl, z)
+    w.wrapping_add(offset) & mask(vl, z)
 }
 
 fn has_unit(vl: u32, log: u32) -> bool
@@ -40,6 +40,7 @@ fn has_unit(vl: u32, log: u32) -> bool
 }
 
 // The index unit for elements of 8 · 2^log bits. All 0 for a VL or a size that there is not.
+// (No Option: the clause's `no_unit` and `gighull_psel_index` hold the zeros.)
 pub fn unit(vl: u32, log: u32, w: u32, offset: u32) -> IndexUnit
     ensures { result ≡ pick (has_unit vl (size_at log)) (unit_of vl (size_at log) w offset) no_unit }
 {
@@ -51,7 +52,7 @@ pub fn unit(vl: u32, log: u32, w: u32, offset: u32) -> IndexUnit
         };
     }
     IndexUnit {
-        sum: std::num::wrapping_add_u32(w, offset),
+        sum: w.wrapping_add(offset),
         mask: mask(vl, log),
         index: index(vl, log, w, offset),
     }

@@ -1,4 +1,4 @@
--- x
+-- `pattern_of` meets its contract: a byte of the number is the pattern, by one test over the four sizes.
 use Rattle.std.proofs.Common.{Bool, ℕ, ◌*◌, ◌/◌, ◌%◌, ◌^◌, eqb}
 use lib.Dec.{eqb→eq}
 use Rattle.element.specs.Units.{pattern_of}

@@ -9,7 +9,7 @@ returns c =
     let a = c.args in
     let r = c.requires in
     let n = a.vl / 8 / 2 ^ a.z in
-    let e : bit_and c.wrapping_add_u32.result c.mask.result ≡ (a.w + a.offset) % n =
-    rw (c.wrapping_add_u32.ensures.value, c.mask.ensures) (low_bits n (a.w + a.offset) (elements_divide a.vl a.z r.0 r.1))
+    let e : bit_and ((a.w + a.offset) % 2 ^ 32) c.mask.result ≡ (a.w + a.offset) % n =
+    rw c.mask.ensures (low_bits n (a.w + a.offset) (elements_divide a.vl a.z r.0 r.1))
     in
     (e, rw e (mod-lt (a.w + a.offset) (some_elements a.vl a.z r.0 r.1)))

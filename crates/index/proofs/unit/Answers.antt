@@ -1,4 +1,5 @@
 -- `unit` meets its contract: its test decides between the three numbers and none.
+use mathlib.Core.Path.{refl}
 use Rattle.element.proofs.Tests.{said_yes}
 use Rattle.index.proofs.Ready.{numbers}
 use Rattle.index.proofs.unit.Goals as goal
@@ -6,4 +7,4 @@ use Rattle.index.proofs.unit.Goals as goal
 pub returns : goal.returns
 returns c =
     let a = c.args in
-    numbers a.vl a.log a.w a.offset c.wrapping_add_u32.result c.mask.result c.index.result (said_yes c.has_unit.ensures c.if-not-has_unit.false) c.wrapping_add_u32.ensures.value c.mask.ensures c.index.ensures.0
+    numbers a.vl a.log a.w a.offset _ c.mask.result c.index.result (said_yes c.has_unit.ensures c.if-not-has_unit.false) refl c.mask.ensures c.index.ensures.0

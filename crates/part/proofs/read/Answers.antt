@@ -1,16 +1,27 @@
--- `read` meets its contract: each width by its function, and 0 for a part of another.
-use mathlib.Core.Logic.{inl, inr}
+-- `read` meets its contract: the list is its 2, 4 or 8 bytes, spelled out, and a part of another length has the number 0.
+use Rattle.std.proofs.Common.{inl, inr, ap, arith}
+use Rattle.element.specs.Contents.{num}
+use Rattle.element.proofs.Spelled.{spelled}
 use Rattle.part.proofs.Widths.{got, got_none}
 use Rattle.part.proofs.read.Goals as goal
 
-pub returns-then-s-eq2 : goal.returns-then-s-eq2
-returns-then-s-eq2 c = got _ (inl c.if-s-eq2.true) c.get2.ensures
+pub returns-in-2 : goal.returns-in-2
+unfolding num
+returns-in-2 c =
+    let e = c.in-2.is in
+    got _ (inl e) (record { is = omega (arith, ap num (spelled 2 c.args.s.now e)); below = rw e (omega arith) })
 
-pub returns-then-s-eq4 : goal.returns-then-s-eq4
-returns-then-s-eq4 c = got _ (inr (inl c.if-s-eq4.true)) c.get4.ensures
+pub returns-in-4 : goal.returns-in-4
+unfolding num
+returns-in-4 c =
+    let e = c.in-4.is in
+    got _ (inr (inl e)) (record { is = omega (arith, ap num (spelled 4 c.args.s.now e)); below = rw e (omega arith) })
 
-pub returns-then-s-eq8 : goal.returns-then-s-eq8
-returns-then-s-eq8 c = got _ (inr (inr c.if-s-eq8.true)) c.get8.ensures
+pub returns-in-8 : goal.returns-in-8
+unfolding num
+returns-in-8 c =
+    let e = c.in-8.is in
+    got _ (inr (inr e)) (record { is = omega (arith, ap num (spelled 8 c.args.s.now e)); below = rw e (omega arith) })
 
-pub returns : goal.returns
-returns c = got_none _ c.if-s-eq2.false c.if-s-eq4.false c.if-s-eq8.false
+pub returns-in_default : goal.returns-in_default
+returns-in_default c = got_none _ (λ e. omega arith) (λ e. omega arith) (λ e. omega arith)
