@@ -5,5 +5,4 @@ pub mod Widths
 pub mod Places
 pub mod Chunks
 pub mod Files
-pub mod Grouped
 pub mod Accepted
