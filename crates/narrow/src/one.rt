@@ -21,28 +21,28 @@ pub(crate) fn narrow_one<const W: usize, const OP: bool, const U: bool>(
     if U {
         if OP {
             if W == 2 {
-                return unsigned::saturated16(x, r, shift, a);
+                return unsigned::saturated::<u16>(x, r, shift, a);
             }
             if W == 4 {
-                return unsigned::saturated32(x, r, shift, a);
+                return unsigned::saturated::<u32>(x, r, shift, a);
             }
-            return unsigned::saturated64(x, r, shift, a);
+            return unsigned::saturated::<u64>(x, r, shift, a);
         }
         if W == 2 {
-            return unsigned::low16(x, r, shift);
+            return unsigned::low::<u16>(x, r, shift);
         }
         if W == 4 {
-            return unsigned::low32(x, r, shift);
+            return unsigned::low::<u32>(x, r, shift);
         }
-        return unsigned::low64(x, r, shift);
+        return unsigned::low::<u64>(x, r, shift);
     }
     if W == 2 {
-        return signed::signed16(x, OP, r, shift, a);
+        return signed::narrowed::<i16>(x, OP, r, shift, a);
     }
     if W == 4 {
-        return signed::signed32(x, OP, r, shift, a);
+        return signed::narrowed::<i32>(x, OP, r, shift, a);
     }
-    signed::signed64(x, OP, r, shift, a)
+    signed::narrowed::<i64>(x, OP, r, shift, a)
 }
 
 // The result v over the old element y of Zd.
