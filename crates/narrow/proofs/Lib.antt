@@ -1,9 +1,8 @@
+pub mod Lanes
 pub mod Clamp
 pub mod Rounding
 pub mod Computed
-pub mod Widths
 pub mod Places
 pub mod Chunks
 pub mod Files
-pub mod Grouped
 pub mod Accepted

@@ -1,11 +1,12 @@
 -- What the loops share over the widths and the classes: an element is in its class what it is by the word's bits, and where T puts its result.
 use mathlib.Core.Path.{◌≡◌, sym, ◌∙◌}
-use mathlib.Core.Bool.{Bool, true, false}
+use mathlib.Core.Bool.{Bool, true, false, not}
 use mathlib.Core.Logic.{⊎_elim}
 use mathlib.Core.List.{List, ◌++◌}
 use Prim.Native.Nat.{ℕ, ◌+◌, ◌-◌, ◌*◌, ◌%◌, ◌^◌, ◌≤◌, ◌<◌}
 use native.Mathlib.Nat.{mod-lt, mul-suc, mul-le-mul_left}
 use native.Mathlib.Omega.{arith}
+use lib.Dec.{eqb}
 use lib.ListN.{length, take, drop}
 use lib.Seq.{drop_at}
 use lib.Pow.{pow_pos, pow-add, pow_mono}
@@ -78,6 +79,10 @@ unfolding placed
 placed_even t s v y e = rw e
 
 -- ---- one turn of the loops
+
+-- a const parameter of type bool, of which proofs have the byte
+abbrev pub flag : ℕ → Bool
+flag n = not (eqb n 0)
 
 -- element e of what is made of s and o
 abbrev pub elements_in : List ℕ → List ℕ → ℕ → Bool → Bool → Bool → Bool → ℕ → ℕ → ℕ

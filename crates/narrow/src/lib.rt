@@ -2,15 +2,12 @@
 #![tactic(auto)]
 
 mod bounds;
-mod classes;
 mod elements;
-mod middle;
 mod one;
 mod signed;
-mod signed_words;
 mod sizes;
 mod unsigned;
-mod unsigned_words;
+mod words;
 
 ghost use Rattle.std.specs.Prelude.{◌≡◌, length};
 ghost use Rattle.narrowing.specs.Calls.{rest_ready, narrow_ready, narrow_file};

@@ -8,45 +8,50 @@ ghost use Rattle.narrow.specs.Private.{OneReady, PlaceReady};
 use crate::bounds::Bounds;
 use crate::{signed, unsigned};
 
-// An element of w bytes; op of the unsigned classes, u and w are literals where the loop is called, so that the compiler makes a loop for each.
-pub(crate) fn narrow_one(x: u64, w: usize, op: bool, u: bool, r: bool, shift: u32, a: Bounds) -> u64
-    requires { OneReady x w op u r shift a.lo a.hi a.top a.h }
-    ensures { result ≡ narrowed (form op u) r (4 * w) shift x }
+// An element of W bytes.
+pub(crate) fn narrow_one<const W: usize, const OP: bool, const U: bool>(
+    x: u64,
+    r: bool,
+    shift: u32,
+    a: Bounds,
+) -> u64
+    requires { OneReady x W OP U r shift a.lo a.hi a.top a.h }
+    ensures { result ≡ narrowed (form OP U) r (4 * W) shift x }
 {
-    if u {
-        if op {
-            if w == 2 {
-                return unsigned::saturated16(x, r, shift, a);
+    if U {
+        if OP {
+            if W == 2 {
+                return unsigned::saturated::<u16>(x, r, shift, a);
             }
-            if w == 4 {
-                return unsigned::saturated32(x, r, shift, a);
+            if W == 4 {
+                return unsigned::saturated::<u32>(x, r, shift, a);
             }
-            return unsigned::saturated64(x, r, shift, a);
+            return unsigned::saturated::<u64>(x, r, shift, a);
         }
-        if w == 2 {
-            return unsigned::low16(x, r, shift);
+        if W == 2 {
+            return unsigned::low::<u16>(x, r, shift);
         }
-        if w == 4 {
-            return unsigned::low32(x, r, shift);
+        if W == 4 {
+            return unsigned::low::<u32>(x, r, shift);
         }
-        return unsigned::low64(x, r, shift);
+        return unsigned::low::<u64>(x, r, shift);
     }
-    if w == 2 {
-        return signed::signed16(x, op, r, shift, a);
+    if W == 2 {
+        return signed::narrowed::<i16>(x, OP, r, shift, a);
     }
-    if w == 4 {
-        return signed::signed32(x, op, r, shift, a);
+    if W == 4 {
+        return signed::narrowed::<i32>(x, OP, r, shift, a);
     }
-    signed::signed64(x, op, r, shift, a)
+    signed::narrowed::<i64>(x, OP, r, shift, a)
 }
 
 // The result v over the old element y of Zd.
-pub(crate) fn place(y: u64, v: u64, w: usize, t: bool) -> u64
-    requires { PlaceReady v w }
-    ensures { result ≡ placed t (4 * w) v y }
+pub(crate) fn place<const W: usize>(y: u64, v: u64, t: bool) -> u64
+    requires { PlaceReady v W }
+    ensures { result ≡ placed t (4 * W) v y }
 {
     if t {
-        let m = 1u64 << (4 * w);
+        let m = 1u64 << (4 * W);
         return y % m + m * v;
     }
     v

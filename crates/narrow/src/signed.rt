@@ -1,132 +1,175 @@
-// A signed element at each width, in the narrowest arithmetic: clamped to the word's bounds, rounded, shifted and stored.
+// A signed element in the narrowest arithmetic: clamped to the word's bounds, rounded, shifted and stored.
 // A rounded one is halved in the end, so that no sum passes the type. The lesser is taken first: the processor has the lesser and the
 // greater of two, and the compiler sees them so.
-ghost use Rattle.std.specs.Prelude.{◌≡◌, false, ◌≤ℤ◌};
-ghost use Rattle.narrowing.specs.Narrowing.{form, signed_of, shifted, within};
+ghost use Rattle.std.specs.Prelude.{◌≡◌, false, ℕ, ◌-◌, ◌*◌, ◌%◌, ◌^◌, ◌<◌, ◌≤◌, ℤ, ◌+ℤ◌};
+ghost use Rattle.std.specs.Int.{Width, w16, w32, w64, cast_signed, cast_unsigned, int_shr};
+ghost use mir.Val.{bits};
+ghost use Rattle.std.specs.Int.Signed.{mag};
+ghost use Rattle.std.specs.Ordering.{int_cmp};
+ghost use Rattle.std.proofs.Common.{refl, lit≤};
+ghost use Rattle.narrowing.specs.Narrowing.{form, shifted};
 ghost use Rattle.narrowing.specs.Points.{narrowed};
 ghost use Rattle.narrow.specs.Private.{SignedReady, ShiftReady};
 
 use crate::bounds::Bounds;
+use std::ops::{Add, Shr};
 
-fn to_signed16(x: u16) -> i16
-    ensures { result ≡ signed_of 16 x }
-{
-    if x < 32768 {
-        return x as i16;
-    }
-    -1 - ((32767 - (x - 32768)) as i16)
+// The type of an element of twice `half` bits. Its order and its operators are those of the whole numbers, where the answer fits.
+pub(crate) trait Lane: Copy + Drop + Ord + Add<Self, Output = Self> + Shr<u32, Output = Self> {
+    ghost width: { Width };
+
+    ghost half: { ℕ };
+
+    ghost value: { Self → ℤ };
+
+    // The element whose bits are x.
+    fn read(x: u64) -> Self
+        requires { x < 2 ^ (2 * half) }
+        ensures { value result ≡ cast_signed width x };
+
+    fn of(n: i64) -> Self
+        requires { mag n < 2 ^ (2 * half - 1) }
+        ensures { value result ≡ n };
+
+    // The low half of its bits.
+    fn low(self) -> u64
+        ensures { result ≡ cast_unsigned width (value self) % 2 ^ half };
+
+    ghost halves: { bits width ≡ 2 * half };
+
+    ghost some_bits: { 3 ≤ half };
+
+    ghost order: { (x y : Self) → Self.cmp x y ≡ int_cmp (value x) (value y) };
+
+    ghost may_add: { (x y : Self) → mag (value x +ℤ value y) < 2 ^ (2 * half - 1) → Self.can_add x y };
+
+    ghost adds: { (x y r : Self) → Self.add_gives x y r → value r ≡ value x +ℤ value y };
+
+    ghost may_shift: { (x : Self) (k : ℕ) → k < 2 * half → Self.can_shr x k };
+
+    ghost shifts: { (x r : Self) (k : ℕ) → Self.shr_gives x k r → value r ≡ int_shr (value x) k };
 }
 
-fn within16(x: i16, lo: i16, hi: i16) -> i16
-    requires { lo ≤ℤ hi }
-    ensures { result ≡ within lo hi x }
-{
-    let y = if hi < x { hi } else { x };
-    if y < lo {
-        return lo;
+impl Lane for i16 {
+    ghost width = { w16 };
+
+    ghost half = { 8 };
+
+    ghost value = { λ x. x };
+
+    fn read(x: u64) -> i16 {
+        (x as u16).cast_signed()
     }
-    y
+
+    fn of(n: i64) -> i16 {
+        n as i16
+    }
+
+    fn low(self) -> u64 {
+        (self.cast_unsigned() % 256) as u64
+    }
+
+    ghost halves = { refl };
+
+    ghost some_bits = { lit≤ tt };
+
+    ghost order = { λ x y. refl };
+
+    ghost may_add = { λ x y h. record { sfits = h } };
+
+    ghost adds = { λ x y r h. h };
+
+    ghost may_shift = { λ x k h. h };
+
+    ghost shifts = { λ x r k h. h };
 }
 
-fn shifted16(y: i16, r: bool, shift: u32) -> i16
-    requires { ShiftReady r 8 shift y }
-    ensures { result ≡ shifted r shift y }
+impl Lane for i32 {
+    ghost width = { w32 };
+
+    ghost half = { 16 };
+
+    ghost value = { λ x. x };
+
+    fn read(x: u64) -> i32 {
+        (x as u32).cast_signed()
+    }
+
+    fn of(n: i64) -> i32 {
+        n as i32
+    }
+
+    fn low(self) -> u64 {
+        (self.cast_unsigned() % 65536) as u64
+    }
+
+    ghost halves = { refl };
+
+    ghost some_bits = { lit≤ tt };
+
+    ghost order = { λ x y. refl };
+
+    ghost may_add = { λ x y h. record { sfits = h } };
+
+    ghost adds = { λ x y r h. h };
+
+    ghost may_shift = { λ x k h. h };
+
+    ghost shifts = { λ x r k h. h };
+}
+
+impl Lane for i64 {
+    ghost width = { w64 };
+
+    ghost half = { 32 };
+
+    ghost value = { λ x. x };
+
+    fn read(x: u64) -> i64 {
+        x.cast_signed()
+    }
+
+    fn of(n: i64) -> i64 {
+        n
+    }
+
+    fn low(self) -> u64 {
+        self.cast_unsigned() % 4294967296
+    }
+
+    ghost halves = { refl };
+
+    ghost some_bits = { lit≤ tt };
+
+    ghost order = { λ x y. refl };
+
+    ghost may_add = { λ x y h. record { sfits = h } };
+
+    ghost adds = { λ x y r h. h };
+
+    ghost may_shift = { λ x k h. h };
+
+    ghost shifts = { λ x r k h. h };
+}
+
+fn shifted<L: Lane>(y: L, r: bool, shift: u32) -> L
+    requires { ShiftReady r L.half shift (L.value y) }
+    ensures { L.value result ≡ shifted r shift (L.value y) }
 {
     if r {
-        return ((y >> (shift - 1)) + 1) >> 1;
+        return ((y >> (shift - 1)) + L::of(1)) >> 1;
     }
     y >> shift
 }
 
-// To 8 bits.
-pub(crate) fn signed16(x: u64, op: bool, r: bool, shift: u32, a: Bounds) -> u64
-    requires { SignedReady x op r 8 shift a.lo a.hi }
-    ensures { result ≡ narrowed (form op false) r 8 shift x }
+// The result for the element whose bits are x.
+pub(crate) fn narrowed<L: Lane>(x: u64, op: bool, r: bool, shift: u32, a: Bounds) -> u64
+    requires { SignedReady x op r L.half shift a.lo a.hi }
+    ensures { result ≡ narrowed (form op false) r L.half shift x }
 {
-    let v = to_signed16(x as u16);
-    let y = within16(v, a.lo as i16, a.hi as i16);
-    let q = shifted16(y, r, shift);
-    ((q + 256) as u16 % 256) as u64
-}
-
-fn to_signed32(x: u32) -> i32
-    ensures { result ≡ signed_of 32 x }
-{
-    if x < 2147483648 {
-        return x as i32;
-    }
-    -1 - ((2147483647 - (x - 2147483648)) as i32)
-}
-
-fn within32(x: i32, lo: i32, hi: i32) -> i32
-    requires { lo ≤ℤ hi }
-    ensures { result ≡ within lo hi x }
-{
-    let y = if hi < x { hi } else { x };
-    if y < lo {
-        return lo;
-    }
-    y
-}
-
-fn shifted32(y: i32, r: bool, shift: u32) -> i32
-    requires { ShiftReady r 16 shift y }
-    ensures { result ≡ shifted r shift y }
-{
-    if r {
-        return ((y >> (shift - 1)) + 1) >> 1;
-    }
-    y >> shift
-}
-
-// To 16 bits.
-pub(crate) fn signed32(x: u64, op: bool, r: bool, shift: u32, a: Bounds) -> u64
-    requires { SignedReady x op r 16 shift a.lo a.hi }
-    ensures { result ≡ narrowed (form op false) r 16 shift x }
-{
-    let v = to_signed32(x as u32);
-    let y = within32(v, a.lo as i32, a.hi as i32);
-    let q = shifted32(y, r, shift);
-    ((q + 65536) as u32 % 65536) as u64
-}
-
-fn to_signed64(x: u64) -> i64
-    ensures { result ≡ signed_of 64 x }
-{
-    if x < 9223372036854775808 {
-        return x as i64;
-    }
-    -1 - ((9223372036854775807 - (x - 9223372036854775808)) as i64)
-}
-
-fn within64(x: i64, lo: i64, hi: i64) -> i64
-    requires { lo ≤ℤ hi }
-    ensures { result ≡ within lo hi x }
-{
-    let y = if hi < x { hi } else { x };
-    if y < lo {
-        return lo;
-    }
-    y
-}
-
-fn shifted64(y: i64, r: bool, shift: u32) -> i64
-    requires { ShiftReady r 32 shift y }
-    ensures { result ≡ shifted r shift y }
-{
-    if r {
-        return ((y >> (shift - 1)) + 1) >> 1;
-    }
-    y >> shift
-}
-
-// To 32 bits.
-pub(crate) fn signed64(x: u64, op: bool, r: bool, shift: u32, a: Bounds) -> u64
-    requires { SignedReady x op r 32 shift a.lo a.hi }
-    ensures { result ≡ narrowed (form op false) r 32 shift x }
-{
-    let v = to_signed64(x);
-    let y = within64(v, a.lo, a.hi);
-    let q = shifted64(y, r, shift);
-    (q + 4294967296) as u64 % 4294967296
+    let v = L::read(x);
+    let lo = L::of(a.lo);
+    let hi = L::of(a.hi);
+    let y = v.min(hi).max(lo);
+    shifted(y, r, shift).low()
 }

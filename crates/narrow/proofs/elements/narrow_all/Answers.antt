@@ -1,34 +1,32 @@
 -- `narrow_all` meets its contract: what is read are the elements of s and of the first o, and what comes back is o with one more.
 use mathlib.Core.Path.{refl, ◌∙◌}
 use native.Mathlib.Nat.{zero-mul}
-use native.Mathlib.Omega.{arith}
 use borrow.Rule.Slice.PartMut.{same_len_mid}
 use Rattle.element.specs.Contents.{fill}
 use Rattle.element.proofs.Filling.{again}
 use Rattle.part.proofs.Widths.{element_read, element_stored}
 use Rattle.narrowing.proofs.Placed.{stored_lt}
-use Rattle.narrow.proofs.Places.{elements_in, made, old}
+use Rattle.narrow.proofs.Places.{elements_in, made, old, flag}
 use Rattle.narrow.proofs.elements.narrow_all.Goals as goal
 
 pub loop-i-init : goal.loop-i-init
 unfolding fill
-loop-i-init c = (omega arith, refl, simp zero-mul)
+loop-i-init g c = (refl, simp zero-mul)
 
 pub place-v-requires : goal.place-v-requires
-place-v-requires c = record { bytes = c.requires.bytes; fit = rw c.narrow_one-q.ensures (stored_lt _ _ _ _ _) }
+place-v-requires g c = record { bytes = c.requires.bytes; fit = rw c.narrow_one-q.ensures (stored_lt _ _ _ _ _) }
 
 pub loop-i-preserved : goal.loop-i-preserved
-loop-i-preserved c =
+loop-i-preserved g c =
     let a = c.args in
     let q = c.requires in
     let l = c.loop-i in
     let t = c.loop-i-test.true in
-    let f = elements_in a.s.now a.o.now a.w a.op a.u a.r a.t a.shift in
-    let x = element_read l.i a.n a.w a.s.now t q.source q.bytes c.read-x.ensures in
-    let y = element_read l.i a.n a.w l.o t (l.invariant.1 ∙ q.target) q.bytes c.read-y.ensures in (
-      omega arith,
-      same_len_mid _ _ _ _ c.write.auto.o ∙ l.invariant.1,
-      again f a.w l.i a.n a.o.now l.o _ c.place-v.result t (l.invariant.1 ∙ q.target) l.invariant.2
-          (made _ _ _ _ _ c.place-v.ensures c.narrow_one-q.ensures x (y ∙ old f a.w l.i a.o.now l.o l.invariant.2))
-          (element_stored l.i a.n a.w l.o t (l.invariant.1 ∙ q.target) q.bytes _ c.write.ensures),
+    let f = elements_in a.s.now a.o.now g.row.W (flag g.row.OP) (flag g.row.U) a.r a.t a.shift in
+    let x = element_read l.i a.n g.row.W a.s.now t q.source q.bytes c.read-x.ensures in
+    let y = element_read l.i a.n g.row.W l.o t (l.invariant.0 ∙ q.target) q.bytes c.read-y.ensures in (
+      same_len_mid _ _ _ _ c.write.auto.o ∙ l.invariant.0,
+      again f g.row.W l.i a.n a.o.now l.o _ c.place-v.result t (l.invariant.0 ∙ q.target) l.invariant.1
+          (made _ _ _ _ _ c.place-v.ensures c.narrow_one-q.ensures x (y ∙ old f g.row.W l.i a.o.now l.o l.invariant.1))
+          (element_stored l.i a.n g.row.W l.o t (l.invariant.0 ∙ q.target) q.bytes _ c.write.ensures),
     )

@@ -9,14 +9,15 @@ use Rattle.element.proofs.Slots.{slot_part, slot_length}
 use Rattle.narrowing.specs.Narrowing.{form}
 use Rattle.narrowing.specs.Registers.{element}
 use Rattle.narrow.proofs.Chunks.{slot_made}
+use Rattle.narrow.proofs.Places.{flag}
 use Rattle.narrow.proofs.elements.narrow_chunks.Goals as goal
 
 pub returns : goal.returns
-returns c =
+returns g c =
     let a = c.args in
-    let m = a.n * (a.per * a.w) in
+    let m = a.n * (a.per * g.row.W) in
     let z = a.z.now in
     let e = c.copy_from_slice.ensures.after ∙ slot_part 256 m a.zn z (omega arith) in
-    slot_made (element (form a.op a.u) a.r a.t (4 * a.w) a.shift) a.w (a.n * a.per) m a.zn a.zd z _ (omega arith) (mul_assoc a.n a.per a.w)
+    slot_made (element (form (flag g.row.OP) (flag g.row.U)) a.r a.t (4 * g.row.W) a.shift) g.row.W (a.n * a.per) m a.zn a.zd z _ (omega arith) (mul_assoc a.n a.per g.row.W)
     (take_at c.copy_from_slice.new.self _ m (ap length e ∙ slot_length 256 m a.zn z (omega arith)) ∙ e)
     c.narrow_parts.ensures

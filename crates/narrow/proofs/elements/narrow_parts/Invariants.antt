@@ -1,15 +1,11 @@
--- `narrow_parts`: after i turns o begins with the elements of the first i chunks. The measure is what is left of the count.
+-- `narrow_parts`: after i turns o begins with the elements of the first i chunks.
 use mathlib.Core.Path.{◌≡◌}
 use mathlib.Core.List.{◌++◌}
-use Prim.Native.Nat.{◌-◌, ◌*◌, ◌≤◌}
-use lib.ListN.{length, drop}
+use Prim.Native.Nat.{◌*◌}
+use lib.ListN.{drop}
 use Rattle.element.specs.Contents.{fill}
-use Rattle.narrow.proofs.Places.{elements_in}
+use Rattle.narrow.proofs.Places.{elements_in, flag}
 use Rattle.narrow.proofs.elements.narrow_parts.Given as goal
 
 abbrev pub invariant-loop-i : goal.invariant-loop-i
-invariant-loop-i l =
-    (l.i ≤ l.n) × (length l.o ≡ length l.fn.o) × (l.o ≡ fill (elements_in l.fn.s l.fn.o l.fn.w l.fn.op l.fn.u l.fn.r l.fn.t l.fn.shift) l.fn.w (l.i * l.fn.per) ++ drop (l.i * (l.fn.per * l.fn.w)) l.fn.o)
-
-abbrev pub decreases-loop-i : goal.decreases-loop-i
-decreases-loop-i l = l.n - l.i
+invariant-loop-i g l = l.o ≡ fill (elements_in l.fn.s l.fn.o g.row.W (flag g.row.OP) (flag g.row.U) l.fn.r l.fn.t l.fn.shift) g.row.W (l.i * l.fn.per) ++ drop (l.i * (l.fn.per * g.row.W)) l.fn.o

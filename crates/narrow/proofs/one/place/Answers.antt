@@ -3,7 +3,7 @@ use Rattle.narrow.proofs.Places.{placed_odd, placed_even}
 use Rattle.narrow.proofs.one.place.Goals as goal
 
 pub returns-then-t : goal.returns-then-t
-returns-then-t c = placed_odd c.requires c.args.t c.args.y c.if-t.true
+returns-then-t g c = placed_odd c.requires c.args.t c.args.y c.if-t.true
 
 pub returns : goal.returns
-returns c = placed_even _ _ _ c.args.y c.if-t.false
+returns g c = placed_even _ _ _ c.args.y c.if-t.false
