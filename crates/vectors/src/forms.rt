@@ -5,7 +5,7 @@
 // its fields, or the word and zeros.
 use crate::lines;
 use crate::lines::Numbers;
-use encoding::{Decoded, Instruction};
+use encoding::Instruction;
 use setting::Setting;
 use std::io;
 
@@ -24,15 +24,17 @@ fn answered(number: u32, word: u32) -> [u32; 8] {
 pub(crate) fn read(rt: &HostRuntime, setting: Setting) -> io::Result<()> {
     let [word, _, _, _, _, _] = lines::read::<6>(rt)?;
     let line = match decoder::decode(setting, word) {
-        Decoded::Fields(instruction) => fields(instruction),
-        Decoded::Refused(answer) => answered(setting::number(answer), 0),
+        Ok(instruction) => fields(instruction),
+        Err(refusal) => answered(u32::from(refusal), 0),
     };
     println!(rt; "{}", Numbers(&line))
 }
 
 pub(crate) fn write(rt: &HostRuntime, setting: Setting, form: u32) -> io::Result<()> {
     let [a, b, c, d, e, f] = lines::read::<6>(rt)?;
-    let written = exported::written(setting, &[form, a, b, c, d, e, f]);
-    let line = answered(setting::number(written.answer), written.word);
+    let line = match exported::written(setting, &[form, a, b, c, d, e, f]) {
+        Ok(word) => answered(0, word),
+        Err(refusal) => answered(u32::from(refusal), 0),
+    };
     println!(rt; "{}", Numbers(&line))
 }

@@ -11,9 +11,8 @@ use stretch::Reply;
 
 fn told(reply: Reply) -> (u32, u32) {
     match reply {
-        Reply::Yes => (0, 1),
-        Reply::No => (0, 0),
-        Reply::Refused(answer) => (setting::number(answer), 0),
+        Ok(yes) => (0, u32::from(yes)),
+        Err(refusal) => (u32::from(refusal), 0),
     }
 }
 
