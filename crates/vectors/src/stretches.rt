@@ -4,31 +4,31 @@
 // number, 1 for yes or 0, and zeros. Kind 10: how many words, how many entries, and zeros; then the words, and the
 // order's entries. An answer is two numbers: document 01's, and 1 for yes or 0.
 use crate::lines;
+use crate::lines::Numbers;
 use setting::Setting;
+use std::io;
 use stretch::Reply;
 
-fn told(reply: Reply) -> [u32; 2] {
+fn told(reply: Reply) -> (u32, u32) {
     match reply {
-        Reply::Yes => [0, 1],
-        Reply::No => [0, 0],
-        Reply::Refused(answer) => [setting::number(answer), 0],
+        Ok(yes) => (0, u32::from(yes)),
+        Err(refusal) => (u32::from(refusal), 0),
     }
 }
 
-pub(crate) fn conflict(rt: &HostRuntime, setting: Setting, first: &[u32; 9]) -> bool {
-    let reply = told(stretch::conflict(setting, first[3], first[4]));
-    lines::write(rt, &[reply[0], reply[1], 0, 0, 0, 0, 0, 0])
+pub(crate) fn conflict(rt: &HostRuntime, setting: Setting) -> io::Result<()> {
+    let [first, second, _, _, _, _] = lines::read::<6>(rt)?;
+    let (answer, yes) = told(stretch::conflict(setting, first, second));
+    println!(rt; "{}", Numbers(&[answer, yes, 0, 0, 0, 0, 0, 0]))
 }
 
-// False also where a list is longer than its buffer: no question has so long a one.
-pub(crate) fn permission(rt: &HostRuntime, setting: Setting, first: &[u32; 9]) -> bool {
+// An error also where a list is longer than its buffer: no question has so long a one.
+pub(crate) fn permission(rt: &HostRuntime, setting: Setting) -> io::Result<()> {
+    let [word_count, entry_count, _, _, _, _] = lines::read::<6>(rt)?;
     let mut words = [0u32; 520];
     let mut order = [0u32; 520];
-    if !lines::read(rt, &mut words, first[3]) || !lines::read(rt, &mut order, first[4]) {
-        return false;
-    }
-    let words = lines::prefix(&words, first[3]);
-    let order = lines::prefix(&order, first[4]);
-    let reply = told(stretch::permitted(setting, words, order));
-    lines::write(rt, &reply)
+    let words = lines::read_list(rt, &mut words, word_count)?;
+    let order = lines::read_list(rt, &mut order, entry_count)?;
+    let (answer, yes) = told(stretch::permitted(setting, words, order));
+    println!(rt; "{}", Numbers(&[answer, yes]))
 }

@@ -1,9 +1,0 @@
--- `main` is safe and ends: the number of turns left falls.
-use Rattle.std.proofs.Common.{rules}
-use Rattle.vectors.proofs.main.Given as goal
-
-abbrev pub invariant-loop-left : goal.invariant-loop-left
-invariant-loop-left l = Unit {0}
-
-abbrev pub decreases-loop-left : goal.decreases-loop-left
-decreases-loop-left l = l.left
