@@ -6,13 +6,15 @@ use Prim.Native.Nat.{ℕ, ◌+◌, ◌/◌, ◌%◌, ◌≤◌}
 use native.Mathlib.Omega.{arith}
 use lib.Dec.{eqb}
 use lib.ListN.{length}
+use Rattle.std.specs.Prelude.{ltb, Some, None, unwrap_or}
+use Rattle.std.proofs.lemmas.Bool.{ltb-false}
 use Rattle.logic.specs.Pick.{pick}
 use Rattle.setting.specs.Numbers.{Outcome, accept, refuse}
 use Rattle.element.specs.Contents.{digit}
 use Rattle.encoding.specs.Instructions.{is_set, narrow_number}
 use Rattle.encoding.specs.Names.{narrow_letters}
 use Rattle.encoding.specs.Rows.{rows, pext1, pext2}
-use Rattle.encoding.specs.Places.{place_in}
+use Rattle.encoding.specs.Places.{place_in, found_place}
 use Rattle.encoding.specs.Decode.{decode_of}
 use Rattle.encoding.specs.declared.Instruction.{Instruction}
 use Rattle.encoding.specs.declared.Instruction.TheVariants.{Pext, Psel, Luti4c, Luti4s, Narrow}
@@ -33,6 +35,14 @@ pick_le false n m h = omega arith
 pub place_le : (o : Outcome Instruction) → place_in o ≤ length rows
 place_le (accept i) = omega (arith, place_lt i)
 place_le (refuse n) = omega arith
+
+-- no row's place is the table's length
+or_no_row : (b : Bool) (n : ℕ) → ltb n (length rows) ≡ b → n ≤ length rows → unwrap_or (pick b (Some n) None) (length rows) ≡ n
+or_no_row true n e h = refl
+or_no_row false n e h = let l = ltb-false n (length rows) e in omega (arith, l)
+
+pub place_or_rows : (o : Outcome Instruction) → unwrap_or (found_place (place_in o)) (length rows) ≡ place_in o
+place_or_rows o = or_no_row (ltb (place_in o) (length rows)) (place_in o) refl (place_le o)
 
 flags_named : (op u r t : Bool) → name_at (5 + (narrow_number op u r t + 0)) ≡ narrow_letters (is_set (digit op)) (is_set (digit u)) (is_set (digit r)) (is_set (digit t))
 flags_named false false false false = refl

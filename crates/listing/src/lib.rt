@@ -37,7 +37,8 @@ fn name_index(word: u32) -> usize
             features: 31,
         },
         word,
-    );
+    )
+    .unwrap_or(ROWS);
     let bits = (word / 0x400 % 16) as usize;
     place + (where_so(place == 5, bits) + where_so(place == ROWS, 15))
 }
