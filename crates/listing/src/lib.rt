@@ -43,6 +43,7 @@ fn name_index(word: u32) -> usize
         word,
     );
     let bits = (word / 0x400 % 16) as usize;
+    // 5 and ROWS are numbers since `decoder::form` promises a place of the table (`place_in`), which the names begin with.
     place + select_unpredictable(place == 5, bits, 0) + select_unpredictable(place == ROWS, 15, 0)
 }
 
