@@ -1,6 +1,6 @@
 -- The place of the first row that matches, as the two searches find it: among layouts pairwise apart one row at most matches, in whatever order they are tried; or turn by turn from the last row. By induction on the rows.
 use mathlib.Core.Path.{◌≡◌, refl, sym, ap, ap₂, ◌∙◌}
-use mathlib.Core.Bool.{Bool, true, false, ◌&&◌, and_assoc, and-false}
+use mathlib.Core.Bool.{Bool, true, false, ◌&&◌, and_assoc, and-false, cond}
 use mathlib.Core.List.{List, [], ◌∷◌, map}
 use Prim.Native.Nat.{ℕ, zero, suc, ◌+◌, ◌<◌, ◌≤◌}
 use native.Mathlib.Omega.{arith}
@@ -8,20 +8,16 @@ use native.Mathlib.Decide.{ℕ_discrete}
 use lib.Dec.{T, eqb, eqb→eq, ltb, ltb→lt}
 use lib.ListN.{length, drop, get_or}
 use borrow.Author.Tests.{lt-ltb}
-use Rattle.std.specs.Prelude.{Option}
-use Rattle.std.specs.Option.{option_or}
-use Rattle.std.specs.Bool.{then_some}
 use Rattle.setting.specs.Allowed.{has_any}
 use Rattle.logic.specs.Pick.{pick}
 use Rattle.logic.specs.Every.{all}
 use Rattle.element.proofs.Below.{both, below}
 use Rattle.encoding.specs.Layout.{Piece, fields_of, matches}
 use Rattle.encoding.specs.Rows.{Row, rows, row_matches}
-use Rattle.encoding.specs.Places.{layout_at, has_layout, place_first, found_place}
+use Rattle.encoding.specs.Places.{layout_at, has_layout, place_first}
 use Rattle.encoding.proofs.Choice.{matches_at, place_is}
 use Rattle.encoding.proofs.Round.{rows_disjoint}
 use Rattle.decoder.specs.Private.{rest_at}
-use Rattle.decoder.proofs.Cases.{place_at}
 
 abbrev layout_in : List Row → ℕ → List Piece
 layout_in rs k = get_or (map (λ (r : Row). r.layout) rs) k []
@@ -104,14 +100,13 @@ step_down [] i k f w l = absurd (omega arith)
 step_down (r ∷ rs) i zero f w l = picked i (place_first rs f w) (row_matches r f w)
 step_down (r ∷ rs) i (suc k) f w l = step_down rs i k f w (omega arith)
 
--- as the code's turn has it: the row at k if it matches, else what was found behind it
-either : (m : Bool) (k y : ℕ) {p : Option ℕ} → k < length rows → p ≡ found_place y → option_or (then_some m k) p ≡ found_place (pick m k y)
-either true k y h e = place_at k h
-either false k y h e = e
-
-pub turned : (k n f w : ℕ) {p q s : Option ℕ} {m : Bool} → k < length rows → n ≡ suc k → p ≡ found_place (n + place_first (drop n rows) f w) → m ≡ matches_at rows k f w
-    → s ≡ then_some m k → q ≡ option_or s p → q ≡ found_place (k + place_first (drop k rows) f w)
-turned k n f w {p = p} l e i h t o =
+-- the same as the code's turn has it
+pub turned : (k n f w : ℕ) {p q : ℕ} {m : Bool} → k < length rows → n ≡ suc k → p ≡ n + place_first (drop n rows) f w → m ≡ matches_at rows k f w → q ≡ cond m k p
+    → q ≡ k + place_first (drop k rows) f w
+turned k n f w {p = p} {m = m} l e i h o =
     let s : suc k + place_first (drop (suc k) rows) f w ≡ k + 1 + place_first (drop (suc k) rows) f w = omega arith in
-    let j = ap (λ (x : ℕ). x + place_first (drop x rows) f w) e ∙ s in
-    o ∙ ap (λ (x : Option ℕ). option_or x p) (t ∙ ap (λ (x : Bool). then_some x k) h) ∙ either (matches_at rows k f w) k _ l i ∙ ap (λ (x : ℕ). found_place (pick (matches_at rows k f w) k x)) j ∙ ap found_place (sym (step_down rows k k f w l))
+    o ∙ chosen m k p ∙ ap₂ (λ (c : Bool) (x : ℕ). pick c k x) h (i ∙ ap (λ (x : ℕ). x + place_first (drop x rows) f w) e ∙ s) ∙ sym (step_down rows k k f w l)
+  where
+    chosen : (b : Bool) (x y : ℕ) → cond b x y ≡ pick b x y
+    chosen true x y = refl
+    chosen false x y = refl

@@ -6,6 +6,7 @@ ghost use Rattle.decoder.specs.Private.{condition_at, rest_at};
 
 use encoding::table;
 use encoding::table::ROWS;
+use std::hint::select_unpredictable;
 
 // The field condition of the row at a place of the table; not met past its end.
 fn condition(place: usize, word: u32) -> bool
@@ -29,16 +30,17 @@ fn rest(place: usize, features: u32, word: u32) -> bool
     table::available(place, features) & condition(place, word)
 }
 
-// The place of the first row that matches. Every row is tested, from the last: for words in no order a branch is rarely foreseen.
+// The place of the first row that matches. Every row is tested, from the last: for words in no order a branch is rarely foreseen. The
+// place is a number up to the end: with an Option in the loop the listing took 1.14 of its time.
 pub(crate) fn place_of(features: u32, word: u32) -> Option<usize>
     ensures { result ≡ found_place (place_first rows features word) }
 {
-    let mut place = None;
+    let mut place = ROWS;
     for k in (0..ROWS).rev() {
         let hit = table::has_layout(k, word) & rest(k, features, word);
-        place = hit.then_some(k).or(place);
+        place = select_unpredictable(hit, k, place);
     }
-    place
+    (place < ROWS).then_some(place)
 }
 
 // The places in the order in which they are tried by turns: the words that take least time come first.

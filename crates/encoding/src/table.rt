@@ -45,17 +45,34 @@ const LAYOUTS: [Fixed; ROWS] = [
 // The names: of the rows that have one, in their order, of the narrowing words by op:U:R:T, and of no row.
 pub const NAMES: usize = 22;
 
-// Each in 16 bytes, as it follows a word's digits in a listing, and how long that is.
-pub const NAME_TEXTS: [u8; 16 * NAMES] =
-    *b" PEXT1\n......... PEXT2\n......... PSEL\n.......... LUTI4C\n........ LUTI4S\n........ \
-        SQSHRUNB\n...... SQSHRUNT\n...... SQRSHRUNB\n..... SQRSHRUNT\n..... \
-        SHRNB\n......... SHRNT\n......... RSHRNB\n........ RSHRNT\n........ \
-        SQSHRNB\n....... SQSHRNT\n....... SQRSHRNB\n...... SQRSHRNT\n...... \
-        UQSHRNB\n....... UQSHRNT\n....... UQRSHRNB\n...... UQRSHRNT\n...... \
-        UNDEFINED\n.....";
+// A name as it follows a word's digits in a listing, with dots behind it up to the longest, and how long it is without them.
+// Kept in this form for speed: copied at its own length the lister takes 2.5 of fastlist, for a bar of 2 (docs/SPEED.md).
+#[derive(Clone, Copy)]
+pub struct NameText(pub [u8; 11], pub usize);
 
-pub const NAME_LENGTHS: [usize; NAMES] = [
-    7, 7, 6, 8, 8, 10, 10, 11, 11, 7, 7, 8, 8, 9, 9, 10, 10, 9, 9, 10, 10, 11,
+pub static NAME_TEXTS: [NameText; NAMES] = [
+    NameText(*b" PEXT1\n....", 7),
+    NameText(*b" PEXT2\n....", 7),
+    NameText(*b" PSEL\n.....", 6),
+    NameText(*b" LUTI4C\n...", 8),
+    NameText(*b" LUTI4S\n...", 8),
+    NameText(*b" SQSHRUNB\n.", 10),
+    NameText(*b" SQSHRUNT\n.", 10),
+    NameText(*b" SQRSHRUNB\n", 11),
+    NameText(*b" SQRSHRUNT\n", 11),
+    NameText(*b" SHRNB\n....", 7),
+    NameText(*b" SHRNT\n....", 7),
+    NameText(*b" RSHRNB\n...", 8),
+    NameText(*b" RSHRNT\n...", 8),
+    NameText(*b" SQSHRNB\n..", 9),
+    NameText(*b" SQSHRNT\n..", 9),
+    NameText(*b" SQRSHRNB\n.", 10),
+    NameText(*b" SQRSHRNT\n.", 10),
+    NameText(*b" UQSHRNB\n..", 9),
+    NameText(*b" UQSHRNT\n..", 9),
+    NameText(*b" UQRSHRNB\n.", 10),
+    NameText(*b" UQRSHRNT\n.", 10),
+    NameText(*b" UNDEFINED\n", 11),
 ];
 
 // Whether the word has every fixed bit of the layout at a place of the table; no past its end.

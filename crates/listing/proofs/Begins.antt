@@ -1,21 +1,17 @@
 -- A text at the start of a buffer of which the rest is open, and a second one right behind it: by the laws of `take` and `drop` at the seam.
-use mathlib.Core.Path.{◌≡◌, sym, ap, subst, ◌∙◌}
+use mathlib.Core.Path.{◌≡◌, sym, ap, ◌∙◌}
 use mathlib.Core.List.{List, ◌++◌}
 use Prim.Native.Nat.{ℕ, ◌+◌, ◌-◌, ◌≤◌}
 use native.Mathlib.Omega.{arith}
 use lib.ListN.{length, take, drop, length-append, length-take, take-append-drop}
 use lib.Seq.{length-take-le, take-append-le, take-append_seam, take-add, drop_at, drop-drop}
 use borrow.Rule.Slice.PartMut.{mid_of, put_mid, take_put, drop_put, mid_len}
-use Rattle.listing.specs.Buffer.{over, Wrote}
+use Rattle.listing.specs.Buffer.{Wrote}
 use Rattle.listing.specs.Private.{Begins, Began}
 use Rattle.listing.proofs.Over.{wrote_more}
 
 pub begins_within : {t a : List ℕ} {r : ℕ} → Begins t a r → r ≤ length a
 begins_within b = omega (arith, simp length-take at (ap length b.start), b.count)
-
-pub begins_over : (b : List ℕ) {t a : List ℕ} {r : ℕ} → Begins t a r → Begins t (over a b) r
-begins_over b {a = a} {r = r} w =
-    record { count = w.count; start = take-append-le r a (drop (length a) b) (begins_within w) ∙ w.start }
 
 pub wrote_begins : {t b a : List ℕ} {r : ℕ} → Wrote t b a r → Begins t a r
 wrote_begins w = record { count = w.count; start = rw (w.whole, w.count, take-append_seam) }
@@ -77,7 +73,3 @@ began_last {a} {b} {out} {o} {ys} {at} {e} {r} w v k g l m =
     let x = wrote_more {e = e} h v k l m in
     let d : drop (at + r) o ≡ drop (at + r) out = later o out (at + 6) (at + r) (omega arith) w.rest in
     record { count = x.count; whole = x.whole ∙ rw (← x.count, d) }
-
--- the text alone, copied from a buffer that begins with it
-pub wrote_begun : {t a b c : List ℕ} {r k : ℕ} → Begins t a r → Wrote (take r a) b c k → Wrote t b c k
-wrote_begun {b = b} {c = c} {k = k} w v = subst (λ (x : List ℕ). Wrote x b c k) w.start v

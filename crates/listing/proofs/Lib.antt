@@ -3,3 +3,4 @@ pub mod Over
 pub mod Begins
 pub mod Tables
 pub mod Names
+pub mod Quads

@@ -1,10 +1,10 @@
--- What the private functions promise of a buffer, and ask of the tables that are lent to them: each entry's rule.
-use Rattle.std.specs.Prelude.{ℕ, suc, ◌+◌, ◌*◌, ◌/◌, ◌%◌, ◌≤◌, ◌<◌, ◌≡◌, List, [], ◌∷◌, ◌++◌, map, length, get_or, take, drop}
-use Rattle.text.specs.Text.{glyph_of}
+-- What the private functions promise of a buffer: a text at its start, and which text it is.
+use Rattle.std.specs.Int.{w32, from_le_bytes}
+use Rattle.std.specs.Prelude.{ℕ, ◌+◌, ◌/◌, ◌%◌, ◌≡◌, List, [], ◌∷◌, ◌++◌, map, length, get_or, take, drop}
 use Rattle.encoding.specs.Names.{narrow_name}
 use Rattle.encoding.specs.Rows.{Row, rows}
 use Rattle.encoding.specs.Named.{undefined}
-use Rattle.text.specs.Lines.{name_line}
+use Rattle.text.specs.Lines.{line_of}
 
 -- a text of r bytes stands at the start of a buffer; nothing is said of the rest
 pub record Begins (text after : List ℕ) (r : ℕ) : Type 0 where
@@ -15,11 +15,6 @@ pub record Begins (text after : List ℕ) (r : ℕ) : Type 0 where
 pub record Began (text before after : List ℕ) (r : ℕ) : Type 0 where
   pub begins : Begins text after r
   pub rest : drop (r + 6) after ≡ drop (r + 6) before
-
--- the two hex digits of each byte
-pub record Pairs (t : List ℕ) : Type 0 where
-  pub high : (b : ℕ) → b < 256 → get_or t (2 * b) 0 ≡ glyph_of (b / 16)
-  pub low : (b : ℕ) → b < 256 → get_or t (2 * b + 1) 0 ≡ glyph_of (b % 16)
 
 -- the name of the narrowing word with the number k as op:U:R:T
 abbrev pub narrow_name_of : ℕ → List ℕ
@@ -32,8 +27,6 @@ names = map (λ (r : Row). r.name []) (take 5 rows) ++ map narrow_name_of (0 ∷
 abbrev pub name_at : ℕ → List ℕ
 name_at k = get_or names k undefined
 
--- each 16 bytes begin with what follows the digits in a line, a space, a name of three letters or more and a newline
-pub record Tails (texts lengths : List ℕ) : Type 0 where
-  pub size : length texts ≡ 16 * suc (length names)
-  pub begins : (i : ℕ) → i ≤ length names → Begins (name_line (name_at i)) (take 11 (drop (16 * i) texts)) (get_or lengths i 0)
-  pub minimum : (i : ℕ) → i ≤ length names → 5 ≤ get_or lengths i 0
+-- the line of the word that the four bytes are, low byte first
+abbrev pub quad_line : List ℕ → List ℕ
+quad_line q = line_of (from_le_bytes w32 q)

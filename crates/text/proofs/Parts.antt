@@ -1,6 +1,6 @@
 -- A line is its eight digits and behind them its name: by the definitions, for a record of four bytes.
-use mathlib.Core.Path.{◌≡◌, refl, ap, ◌∙◌}
-use mathlib.Core.List.{List, ◌++◌, append-nil}
+use mathlib.Core.Path.{◌≡◌, ap, ◌∙◌}
+use mathlib.Core.List.{List, append-nil}
 use Prim.Native.Nat.{ℕ, ◌≤◌}
 use native.Mathlib.Omega.{arith}
 use lib.ListN.{length, get_or, length-append}
@@ -12,12 +12,10 @@ use Rattle.element.proofs.Spelled.{spelled}
 abbrev pub quad_word : List ℕ → ℕ
 quad_word q = word_of_bytes (get_or q 0 0) (get_or q 1 0) (get_or q 2 0) (get_or q 3 0)
 
-pub line_text : (q : List ℕ) {w : ℕ} {name : List ℕ} → length q ≡ 4 → w ≡ quad_word q → name ≡ name_of w → lines_of q ≡ hex_digits 8 w ++ name_line name
-unfolding lines_of line_of
-line_text q l ew ei = ap lines_of (spelled 4 q l) ∙ append-nil (line_of (quad_word q)) ∙ rw (ei, ew)
+pub line_text : (q : List ℕ) → length q ≡ 4 → lines_of q ≡ line_of (quad_word q)
+unfolding lines_of
+line_text q l = ap lines_of (spelled 4 q l) ∙ append-nil (line_of (quad_word q))
 
-pub line_long : (q : List ℕ) → length q ≡ 4 → 8 ≤ length (lines_of q)
-unfolding hex_digits
-line_long q l =
-    let n = name_line (name_of (quad_word q)) in
-    omega (arith, length-append (hex_digits 8 (quad_word q)) n, ap length (line_text q l refl refl))
+pub line_long : (w : ℕ) → 8 ≤ length (line_of w)
+unfolding line_of hex_digits
+line_long w = omega (arith, length-append (hex_digits 8 w) (name_line (name_of w)))

@@ -1,40 +1,51 @@
--- `listing::hex` meets its contract: eight stores fill a list of eight, each with the digit of its place.
-use mathlib.Core.Path.{◌≡◌, ap, ◌∙◌}
+-- `listing::hex` meets its contract: each turn writes the two digits of one byte, which are the word's at their place.
+use mathlib.Core.Path.{◌≡◌, sym, ap, ◌∙◌}
 use mathlib.Core.List.{List}
-use Prim.Native.Nat.{ℕ, ◌/◌, ◌%◌, ◌^◌}
-use native.Mathlib.Nat.{div-one, div-div-eq-div-mul}
-use lib.ListN.{length, set}
+use Prim.Native.Nat.{ℕ, zero, suc, ◌+◌, ◌*◌, ◌/◌, ◌%◌, ◌≤◌, ◌<◌}
+use native.Mathlib.Omega.{arith}
+use lib.ListN.{length, get_or, take, set}
+use lib.Seq.{take_all}
+use Rattle.std.specs.Int.{w32, to_be_bytes}
+use Rattle.std.proofs.Common.{length-set}
+use Rattle.std.proofs.lemmas.List.{take_more, take_more_set}
 use Rattle.text.specs.Text.{glyph_of, hex_digits}
-use Rattle.element.proofs.Spelled.{spelled}
 use Rattle.listing.proofs.hex.Goals as goal
 
--- eight stores fill a list of eight
-digits : (out : List ℕ) (w : ℕ) {g0 g1 g2 g3 g4 g5 g6 g7 : ℕ}
-    → length out ≡ 8
-    → g0 ≡ glyph_of (w / 16 ^ 6 / 16 % 16)
-    → g1 ≡ glyph_of (w / 16 ^ 6 % 16)
-    → g2 ≡ glyph_of (w / 16 ^ 4 / 16 % 16)
-    → g3 ≡ glyph_of (w / 16 ^ 4 % 16)
-    → g4 ≡ glyph_of (w / 16 ^ 2 / 16 % 16)
-    → g5 ≡ glyph_of (w / 16 ^ 2 % 16)
-    → g6 ≡ glyph_of (w / 16 ^ 1 % 16)
-    → g7 ≡ glyph_of (w % 16)
-    → set (set (set (set (set (set (set (set out 0 g0) 1 g1) 2 g2) 3 g3) 4 g4) 5 g5) 6 g6) 7 g7 ≡ hex_digits 8 w
+-- byte i of the word has its digits at 2 * i and behind it
+at_byte : (w i : ℕ) → i < 4
+    → (glyph_of (get_or (to_be_bytes w32 w) i 0 / 16) ≡ get_or (hex_digits 8 w) (2 * i) 0)
+    × (glyph_of (get_or (to_be_bytes w32 w) i 0 % 16) ≡ get_or (hex_digits 8 w) (2 * i + 1) 0)
 unfolding hex_digits
-digits out w {g0} {g1} {g2} {g3} {g4} {g5} {g6} {g7} l e0 e1 e2 e3 e4 e5 e6 e7 =
-    ap (λ (o : List ℕ). set (set (set (set (set (set (set (set o 0 g0) 1 g1) 2 g2) 3 g3) 4 g4) 5 g5) 6 g6) 7 g7) (spelled 8 out l) ∙ rw (e0, e1, e2, e3, e4, e5, e6, e7) (simp (div-div-eq-div-mul, div-one))
+at_byte w zero h = (ap glyph_of (omega arith), ap glyph_of (omega arith))
+at_byte w (suc zero) h = (ap glyph_of (omega arith), ap glyph_of (omega arith))
+at_byte w (suc (suc zero)) h = (ap glyph_of (omega arith), ap glyph_of (omega arith))
+at_byte w (suc (suc (suc zero))) h = (ap glyph_of (omega arith), ap glyph_of (omega arith))
+at_byte w (suc (suc (suc (suc i)))) h = absurd (omega arith)
+
+two_more : (n : ℕ) (out want : List ℕ) {a b : ℕ}
+    → take n out ≡ take n want
+    → n + 2 ≤ length out
+    → n + 2 ≤ length want
+    → a ≡ get_or want n 0
+    → b ≡ get_or want (n + 1) 0
+    → take (n + 2) (set (set out n a) (n + 1) b) ≡ take (n + 2) want
+two_more n out want {a} {b} e h k ea eb =
+    let q : n + 2 ≡ n + 1 + 1 = omega arith in
+    let long : n + 1 < length (set out n a) = simp length-set (omega arith) in
+    rw (q, take_more_set (set out n a) (n + 1) b long, take_more_set out n a (omega arith), take_more want (n + 1) 0 (omega arith), take_more want n 0 (omega arith), e, ea, eb)
+
+pub loop-i-preserved : goal.loop-i-preserved
+unfolding hex_digits
+loop-i-preserved c =
+    let l = c.loop-i in
+    let w = c.args.word in
+    let g = at_byte w l.i c.loop-i-test.true in
+    let e : 2 * (l.i + 1) ≡ 2 * l.i + 2 = omega arith in
+    (simp length-set l.invariant.0, rw (e, c.digits.ensures, c.to_be_bytes.ensures) (two_more (2 * l.i) l.out (hex_digits 8 w) l.invariant.1 (omega arith) (omega arith) g.0 g.1))
 
 pub returns : goal.returns
+unfolding hex_digits
 returns c =
-    digits
-    c.args.out.now
-    c.args.w
-    c.requires.1
-    c.high.ensures
-    c.low.ensures
-    c.high-2.ensures
-    c.low-2.ensures
-    c.high-3.ensures
-    c.low-3.ensures
-    c.high-4.ensures
-    c.low-4.ensures
+    let l = c.loop-i in
+    let e : 2 * l.i ≡ 8 = omega arith in
+    sym (take_all 8 l.out (omega arith)) ∙ (rw e at l.invariant.1) ∙ take_all 8 (hex_digits 8 c.args.word) (omega arith)
