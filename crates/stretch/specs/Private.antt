@@ -1,4 +1,4 @@
--- What the code goes by: a bit for each register that a word touches (Z0 to Z31, P0 to P15, ZT0 and W12 to W15 from the lowest), and tables over the positions of a stretch.
+-- What the code goes by: a bit for each register that a word touches (Z0 to Z31, P0 to P15, ZT0 and W12 to W15 from the lowest), and the words of a stretch as entries.
 use Rattle.std.specs.Prelude.{◌≡◌, Bool, true, false, not, ◌&&◌, ◌||◌, List, [], ◌∷◌, ℕ, ◌+◌, ◌^◌, ◌≤◌, ◌<◌, ltb, length, get_or, take, Result, Ok, Err}
 use Rattle.std.specs.List.{list_all}
 use Rattle.std.specs.Int.Bits.{bit_or}
