@@ -20,37 +20,16 @@ pub struct Counter(u16);
 #[derive(Clone, Copy)]
 struct Mask(u64, u32);
 
-fn byte(s: &[u8], k: usize) -> u8
-    ensures { result ≡ get_or s.now k 0 }
-{
-    if k < s.len() { s[k] } else { 0 }
-}
-
-fn pair(a: u8, b: u8) -> Counter
-    ensures { result.0 ≡ a + 256 * b }
-{
-    Counter((a as u16) + 256 * (b as u16))
-}
-
 // A register's low sixteen bits, read as a counter. A missing byte is 0.
 pub fn counter_of(p: &[u8]) -> Counter
     ensures { result.0 ≡ elem 2 0 p.now }
 {
-    pair(byte(p, 0), byte(p, 1))
+    let low = p.first().copied().unwrap_or(0);
+    let high = p.get(1).copied().unwrap_or(0);
+    Counter(u16::from_le_bytes([low, high]))
 }
 
-fn saturating_sub(a: u32, b: u32) -> u32
-    ensures { result ≡ a - b }
-{
-    if b <= a { a - b } else { 0 }
-}
-
-fn maximum(a: u32, b: u32) -> u32
-    ensures { result ≡ max a b }
-{
-    if a < b { b } else { a }
-}
-
+// (VL stays a number here and below: PEXT calls with literals, and `extract` promises an answer for every number.)
 // Where the elements below the count end, in bits of the expansion: the counter below VL, without the lowest 1, halved.
 fn edge(bits: u32, vl: u32) -> u32
     requires { HasSize vl bits }
@@ -72,11 +51,7 @@ fn places(z: u32) -> u64
 fn from_place(d: u32) -> u64
     ensures { result ≡ gather (λ b. not (ltb b d)) 0 64 }
 {
-    if d < 64 {
-        0xffffffffffffffffu64 << d
-    } else {
-        0
-    }
+    u64::MAX.unbounded_shl(d)
 }
 
 // The expansion, sixty-four bits of it from `from` on: the only way from a counter to a mask.
@@ -89,11 +64,11 @@ fn expand(c: Counter, vl: u32, from: u32) -> Mask
         return Mask(0, 0);
     }
     let z = element::log_of_field(b);
-    let x = from_place(saturating_sub(edge(b, vl), from));
+    let x = from_place(edge(b, vl).saturating_sub(from));
     if b / 32768 == 1 {
         return Mask(x, z);
     }
-    let y = 0xffffffffffffffff - x;
+    let y = !x;
     Mask(y, z)
 }
 
@@ -102,7 +77,7 @@ fn at_places(m: Mask, s: u32) -> u64
     requires { (m.1 < 4) × (s < 4) }
     ensures { result ≡ at_places (at_places m.0 m.1) s }
 {
-    m.0 & places(maximum(m.1, s))
+    m.0 & places(m.1.max(s))
 }
 
 // The mask's bits from `from` on, at every 2^s-th place, eight bytes at a time; two or four where there are no more.
@@ -114,12 +89,10 @@ fn sample(c: Counter, vl: u32, s: u32, from: u32, o: &mut [u8])
         part::write(o, at_places(expand(c, vl, from), s));
         return;
     }
-    let mut a: usize = 0;
-    while a < o.len() {
-        let e = a + 8;
+    for k in 0..o.len() / 8 {
+        let a = 8 * k;
         let m = expand(c, vl, from + 8 * (a as u32));
-        part::write(&mut o[a..e], at_places(m, s));
-        a = e;
+        part::write(&mut o[a..a + 8], at_places(m, s));
     }
 }
 
@@ -130,6 +103,7 @@ fn can_extract(vl: u32, log: u32, portion: u32, room: usize) -> bool
 }
 
 // PEXT: a portion of the counter's mask at the instruction's own size, given by its log. False, and o as it was, where there is none such.
+// (A bool and no Result: the clause `answer` holds it.)
 pub fn extract(c: Counter, vl: u32, log: u32, portion: u32, o: &mut [u8]) -> bool
     ensures answer { result ≡ extractable vl (size_at log) portion (length o.old) }
     ensures part { o.new ≡ pick (extractable vl (size_at log) portion (length o.old)) (portion_of vl (size_at log) portion c.0) o.old }

@@ -1,7 +1,7 @@
 -- An accepted call meets what the private functions ask: each test of the Bool definition, read as a fact.
 use mathlib.Core.Path.{◌≡◌, refl, sym, ◌∙◌}
 use mathlib.Core.Bool.{Bool, true, false, ◌&&◌, ◌||◌}
-use mathlib.Core.Logic.{⊎_map, ◌⊎◌, inr}
+use mathlib.Core.Logic.{⊎_map, inr}
 use Prim.Native.Nat.{ℕ, ◌+◌, ◌*◌, ◌≤◌, ◌<◌}
 use native.Mathlib.Decide.{dec_lt}
 use native.Mathlib.Omega.{arith}

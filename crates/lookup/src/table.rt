@@ -11,8 +11,7 @@ fn entry(zt: &[u8], i: usize) -> u64
     ensures { (result ≡ elem 4 i zt.now) × (result < 4294967296) }
 {
     let a = i * 4;
-    let b = a + 4;
-    part::read(&zt[a..b])
+    part::read(&zt[a..a + 4])
 }
 
 // The low bytes of each entry, raised past as many: m is 256 to their number.
@@ -21,10 +20,8 @@ fn raised(zt: &[u8], m: u64) -> [u64; 16]
     ensures { Raised m zt.now result }
 {
     let mut t = [0u64; 16];
-    let mut i: usize = 0;
-    while i < 16 {
+    for i in 0..16 {
         t[i] = entry(zt, i) % m * m;
-        i += 1;
     }
     t
 }
@@ -34,14 +31,10 @@ fn pairs(s: &[u8], zt: &[u8], high: &[u64; 16], m: u64, w: usize, o: &mut [u8])
     requires { PairsReady (length s.now) (length o.old) m w zt.now high.now }
     ensures { o.new ≡ fill (λ e. elem 4 (field index_bits e s.now) zt.now) w (length s.now * 2) }
 {
-    let mut q: usize = 0;
-    while q < s.len() {
-        let b = s[q];
+    for (q, b) in s.iter().enumerate() {
         let a = q * (2 * w);
-        let e = a + 2 * w;
         let r = entry(zt, (b % 16) as usize) % m + high[(b / 16) as usize];
-        part::write(&mut o[a..e], r);
-        q += 1;
+        part::write(&mut o[a..a + 2 * w], r);
     }
 }
 
@@ -55,15 +48,10 @@ fn look(s: &[u8], zt: &[u8], high: &[u64; 16], m: u64, w: usize, o: &mut [u8])
         pairs(s, zt, high, m, w, o);
         return;
     }
-    let n = s.len() / per;
-    let mut q: usize = 0;
-    while q < n {
+    for q in 0..s.len() / per {
         let i = q * per;
-        let j = i + per;
         let a = q * 64;
-        let e = a + 64;
-        pairs(&s[i..j], zt, high, m, w, &mut o[a..e]);
-        q += 1;
+        pairs(&s[i..i + per], zt, high, m, w, &mut o[a..a + 64]);
     }
 }
 
@@ -95,9 +83,8 @@ fn slot_of(z: &[u8], k: usize) -> [u8; 256]
     ensures { result ≡ slot 256 256 k z.now }
 {
     let a = 256 * k;
-    let b = a + 256;
     let mut s = [0u8; 256];
-    s.copy_from_slice(&z[a..b]);
+    s.copy_from_slice(&z[a..a + 256]);
     s
 }
 
@@ -128,14 +115,10 @@ fn four_destinations(
     let each = index_bytes(vl, size);
     let s = slot_of(z, zn);
     let high = raised_by(zt, w);
-    let mut r: usize = 0;
-    while r < 4 {
+    for r in 0..4 {
         let from = (4 * segment + r) * each;
-        let to = from + each;
         let d = 256 * (first + stride * r);
-        let e = d + n;
-        look_by(&s[from..to], zt, &high, w, &mut z[d..e]);
-        r += 1;
+        look_by(&s[from..from + each], zt, &high, w, &mut z[d..d + n]);
     }
 }
 

@@ -8,4 +8,4 @@ use Rattle.counter.proofs.at_places.Goals as goal
 pub returns : goal.returns
 returns c =
     let m = c.args.m in
-    ap (bit_and m.0) (c.places.ensures ∙ ap every_place c.maximum.ensures) ∙ both_sizes m.0 m.1 c.args.s c.requires.0 c.requires.1
+    ap (bit_and m.0) (c.places.ensures ∙ ap every_place c.max.ensures) ∙ both_sizes m.0 m.1 c.args.s c.requires.0 c.requires.1

@@ -1,10 +1,7 @@
 -- `from_place` meets its contract: each place below 64 computes, and any other has no bit from it on.
-use native.Mathlib.Omega.{arith}
-use Rattle.counter.proofs.Words.{from_near, from_far}
+use Rattle.std.proofs.Common.{◌∙◌}
+use Rattle.counter.proofs.Words.{from_any}
 use Rattle.counter.proofs.from_place.Goals as goal
 
-pub returns-then-d-lt64 : goal.returns-then-d-lt64
-returns-then-d-lt64 c = from_near c.args.d (omega arith)
-
-pub returns-else-d-lt64 : goal.returns-else-d-lt64
-returns-else-d-lt64 c = from_far c.args.d (omega arith)
+pub returns : goal.returns
+returns c = c.unbounded_shl.ensures ∙ from_any c.args.d

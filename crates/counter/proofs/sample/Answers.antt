@@ -1,5 +1,5 @@
--- `sample` meets its contract: the bytes before a are the sample's, the others as they were.
-use Rattle.std.proofs.Common.{ℕ, ◌≡◌, ◌+◌, ◌-◌, ◌*◌, ◌≤◌, length, take, drop, refl, sym, ap, ◌∙◌, inr, arith, length-take, length-drop}
+-- `sample` meets its contract: after k turns the first 8k bytes are the sample's, the others as they were.
+use Rattle.std.proofs.Common.{ℕ, ◌≡◌, ◌+◌, ◌-◌, ◌*◌, length, take, drop, refl, sym, ap, ◌∙◌, inr, arith, length-take, length-drop}
 use Rattle.part.proofs.Widths.{stored}
 use Rattle.element.specs.Contents.{bytes, fill, gather, packed}
 use Rattle.counter.specs.Private.{mask_of, at_places, sampled_bit}
@@ -20,19 +20,19 @@ returns-then-o-lt8 c =
     ∙ ap (bytes n) (sampled a.vl a.c.0 a.s a.from c.expand.ensures.0 c.at_places.ensures)
     ∙ few_bytes (sampled_bit a.vl a.c.0 a.s a.from) n (omega (arith, c.if-o-lt8.true))
 
-pub loop-a-init : goal.loop-a-init
+pub loop-k-init : goal.loop-k-init
 unfolding packed fill
-loop-a-init c = (omega arith, (refl, refl))
+loop-k-init c = refl
 
-pub loop-a-preserved : goal.loop-a-preserved
-loop-a-preserved c =
-    let l = c.loop-a in
+pub loop-k-preserved : goal.loop-k-preserved
+loop-k-preserved c =
+    let l = c.loop-k in
     let a = c.args in
     let g = sampled_bit a.vl a.c.0 a.s a.from in
-    let part = take (l.a + 8 - l.a) (drop l.a l.o) in
-    let room : l.a + 8 ≤ length a.o.now = omega (arith, c.requires.1.many c.if-o-lt8.false) in
-    let eight : length part ≡ 8 = simp (length-take, length-drop) (omega (arith, room)) in
-    let here = sampled a.vl a.c.0 a.s (a.from + 8 * l.a) c.expand-m.ensures.0 c.at_places-in-loop-a.ensures in
-    let next = here ∙ moved a.vl a.c.0 a.s a.from c.requires.0.small l.a in
-    let word = c.write-in-loop-a.ensures ∙ sym (stored part 8 c.at_places-in-loop-a.result eight (inr (inr refl)) refl) ∙ ap (bytes 8) next in
-    (room, (omega arith, eight_more g l.a a.o.now l.o _ l.invariant.1.1 word))
+    let at = 8 * l.k in
+    let part = take (at + 8 - at) (drop at l.o) in
+    let eight : length part ≡ 8 = simp (length-take, length-drop) (omega arith) in
+    let here = sampled a.vl a.c.0 a.s (a.from + 8 * at) c.expand-m.ensures.0 c.at_places-in-loop-k.ensures in
+    let word = c.write-in-loop-k.ensures ∙ sym (stored part 8 c.at_places-in-loop-k.result eight (inr (inr refl)) refl) ∙ ap (bytes 8) (here ∙ moved a.vl a.c.0 a.s a.from c.requires.0.small at) in
+    let next : 8 * (l.k + 1) ≡ at + 8 = omega arith in
+    rw next (eight_more g at a.o.now l.o _ l.invariant word)

@@ -11,7 +11,7 @@ use Rattle.lookup.proofs.table.four_destinations.Goals as goal
 
 pub loop-r-init : goal.loop-r-init
 unfolding luti_file
-loop-r-init c = (omega arith, refl)
+loop-r-init c = refl
 
 pub look_by-requires : goal.look_by-requires
 look_by-requires c =
@@ -42,7 +42,5 @@ loop-r-preserved c =
     let l = c.loop-r in
     let b = c.index_bytes-each in
     let s = c.slot_of-s in
-    let t = turn_at p l.r c.loop-r-test.true b.ensures in (
-      omega arith,
-      turned p b.ensures l.r a.zt.now a.z.now l.z s.result _ (omega arith) (omega arith) (omega arith) s.ensures l.invariant.1 c.look_by.ensures,
-    )
+    let t = turn_at p l.r c.loop-r-test.true b.ensures in
+    turned p b.ensures l.r a.zt.now a.z.now l.z s.result _ (omega arith) (omega arith) (omega arith) s.ensures l.invariant c.look_by.ensures

@@ -1,5 +1,5 @@
 -- `look` meets its contract: less than a chunk by `pairs`; else after q turns o begins with the elements of the first q chunks.
-use Rattle.std.proofs.Common.{ℕ, ◌/◌, ◌*◌, arith, ◌∙◌}
+use Rattle.std.proofs.Common.{ℕ, ◌/◌, ◌*◌, ◌∙◌}
 use native.Mathlib.Nat.{zero-mul, mul_assoc}
 use Rattle.element.specs.Contents.{elem, field, fill}
 use Rattle.element.proofs.Slots.{reach}
@@ -10,7 +10,7 @@ use Rattle.lookup.proofs.table.look.Goals as goal
 
 pub loop-q-init : goal.loop-q-init
 unfolding fill
-loop-q-init c = (omega arith, simp zero-mul)
+loop-q-init c = simp zero-mul
 
 pub loop-q-preserved : goal.loop-q-preserved
 loop-q-preserved c =
@@ -18,8 +18,6 @@ loop-q-preserved c =
     let v = c.requires.0.bytes in
     let l = c.loop-q in
     let p = 32 / a.w in
-    let within = chunk_within _ l.q (chunks_of _ v) c.loop-q-test.true in (
-      omega arith,
-      chunk_again (λ (e : ℕ). elem 4 (field index_bits e a.s.now) a.zt.now) a.w (p * 2) 64 l.q a.o.now l.o _ (chunk_elements v) l.invariant.1
-          (c.pairs-in-loop-q.ensures ∙ taken_looked a.w (l.q * p) a.s.now a.zt.now (reach (l.q * p) p) (mul_assoc l.q p 2) within),
-    )
+    let within = chunk_within _ l.q (chunks_of _ v) c.loop-q-test.true in
+    chunk_again (λ (e : ℕ). elem 4 (field index_bits e a.s.now) a.zt.now) a.w (p * 2) 64 l.q a.o.now l.o _ (chunk_elements v) l.invariant
+        (c.pairs-in-loop-q.ensures ∙ taken_looked a.w (l.q * p) a.s.now a.zt.now (reach (l.q * p) p) (mul_assoc l.q p 2) within)

@@ -1,11 +1,8 @@
--- `look`'s loop: after q turns o begins with the elements of the first q chunks. The measure is what is left of the chunks.
-use Rattle.std.proofs.Common.{◌≡◌, ℕ, ◌-◌, ◌*◌, ◌/◌, ◌≤◌, ◌++◌, drop}
+-- `look`'s loop: after q turns o begins with the elements of the first q chunks.
+use Rattle.std.proofs.Common.{◌≡◌, ℕ, ◌*◌, ◌/◌, ◌++◌, drop}
 use Rattle.element.specs.Contents.{elem, field, fill}
 use Rattle.lookup.specs.Lookup.{index_bits}
 use Rattle.lookup.proofs.table.look.Given as goal
 
 abbrev pub invariant-loop-q : goal.invariant-loop-q
-invariant-loop-q l = (l.q ≤ l.n) × (l.o ≡ fill (λ (e : ℕ). elem 4 (field index_bits e l.s) l.zt) l.w (l.q * (32 / l.w * 2)) ++ drop (l.q * 64) l.fn.o)
-
-abbrev pub decreases-loop-q : goal.decreases-loop-q
-decreases-loop-q l = l.n - l.q
+invariant-loop-q l = l.o ≡ fill (λ (e : ℕ). elem 4 (field index_bits e l.s) l.zt) l.w (l.q * (32 / l.w * 2)) ++ drop (l.q * 64) l.fn.o

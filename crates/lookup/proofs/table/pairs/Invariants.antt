@@ -1,11 +1,8 @@
--- `pairs`'s loop: after q turns o begins with the elements of the first q bytes. The measure is what is left of the bytes.
-use Rattle.std.proofs.Common.{◌≡◌, ℕ, ◌-◌, ◌*◌, ◌≤◌, ◌++◌, length, drop}
+-- `pairs`'s loop: after q turns o begins with the elements of the first q bytes.
+use Rattle.std.proofs.Common.{◌≡◌, ℕ, ◌*◌, ◌++◌, drop}
 use Rattle.element.specs.Contents.{elem, field, fill}
 use Rattle.lookup.specs.Lookup.{index_bits}
 use Rattle.lookup.proofs.table.pairs.Given as goal
 
 abbrev pub invariant-loop-q : goal.invariant-loop-q
-invariant-loop-q l = (l.q ≤ length l.s) × (l.o ≡ fill (λ (e : ℕ). elem 4 (field index_bits e l.s) l.zt) l.w (l.q * 2) ++ drop (l.q * (2 * l.w)) l.fn.o)
-
-abbrev pub decreases-loop-q : goal.decreases-loop-q
-decreases-loop-q l = length l.s - l.q
+invariant-loop-q l = l.o ≡ fill (λ (e : ℕ). elem 4 (field index_bits e l.s) l.zt) l.w (l.q * 2) ++ drop (l.q * (2 * l.w)) l.fn.o
