@@ -1,3 +1,4 @@
+pub mod Flags
 pub mod Lanes
 pub mod Clamp
 pub mod Rounding

@@ -1,16 +1,14 @@
 -- What the loops share over the widths and the classes: an element is in its class what it is by the word's bits, and where T puts its result.
 use mathlib.Core.Path.{◌≡◌, sym, ◌∙◌}
-use mathlib.Core.Bool.{Bool, true, false, not}
+use mathlib.Core.Bool.{Bool, true, false}
 use mathlib.Core.Logic.{⊎_elim}
 use mathlib.Core.List.{List, ◌++◌}
 use Prim.Native.Nat.{ℕ, ◌+◌, ◌-◌, ◌*◌, ◌%◌, ◌^◌, ◌≤◌, ◌<◌}
 use native.Mathlib.Nat.{mod-lt, mul-suc, mul-le-mul_left}
 use native.Mathlib.Omega.{arith}
-use lib.Dec.{eqb}
 use lib.ListN.{length, take, drop}
 use lib.Seq.{drop_at}
 use lib.Pow.{pow_pos, pow-add, pow_mono}
-use lib.IntN.{ℤ}
 use Rattle.element.specs.Contents.{elem, fill}
 use Rattle.element.proofs.Filling.{part_length, fill_length}
 use Rattle.part.specs.Parts.{Got}
@@ -18,33 +16,11 @@ use Rattle.part.specs.Private.{Width}
 use Rattle.narrowing.specs.Narrowing.{Form, form}
 use Rattle.narrowing.specs.Points.{narrowed}
 use Rattle.narrowing.specs.Registers.{placed, element}
-use Rattle.narrow.specs.Private.{OneReady, LowReady, SignedReady, UnsignedReady, PlaceReady}
+use Rattle.narrow.specs.Private.{PlaceReady}
 use Rattle.narrow.proofs.Computed.{one_shl}
 
 pub width_le : {w : ℕ} → Width w → (2 ≤ w) × (w ≤ 8)
 width_le h = ⊎_elim (λ e. (omega arith, omega arith)) (⊎_elim (λ e. (omega arith, omega arith)) (λ e. (omega arith, omega arith))) h
-
-pub eight : {w : ℕ} → Width w → (w ≡ 2 → ⊥) → (w ≡ 4 → ⊥) → w ≡ 8
-eight h two four = ⊎_elim (λ e. absurd (two e)) (⊎_elim (λ e. absurd (four e)) (λ e. e)) h
-
--- ---- an element of v bytes, in each class
-
-module _ {x w : ℕ} {op u r : Bool} {k : ℕ} {lo hi : ℤ} {top h : ℕ} (p : OneReady x w op u r k lo hi top h) (v : ℕ) (e : w ≡ v) where
-  fits : x < 2 ^ (2 * (4 * v))
-  fits = let q : 8 * w ≡ 2 * (4 * v) = omega arith in rw q at p.fit
-
-  pub low_ready : LowReady x (4 * v) k
-  low_ready = record { fit = fits; sized = rw e at p.word.sized }
-
-  pub unsigned_ready : u ≡ true → UnsignedReady x r (4 * v) k top h
-  unsigned_ready eu = record { fit = fits; sized = rw e at p.word.sized; bounds = rw e at (p.word.unsigned eu) }
-
-  pub signed_ready : u ≡ false → SignedReady x op r (4 * v) k lo hi
-  signed_ready eu = record { fit = fits; sized = rw e at p.word.sized; bounds = rw e at (p.word.signed eu) }
-
--- so is what it becomes
-pub by_bits : (op u op' u' r : Bool) (w v k x : ℕ) {b : ℕ} → op ≡ op' → u ≡ u' → w ≡ v → b ≡ narrowed (form op' u') r (4 * v) k x → b ≡ narrowed (form op u) r (4 * w) k x
-by_bits op u op' u' r w v k x eo eu ew h = rw (eo, eu, ew) h
 
 -- ---- placing
 
@@ -79,10 +55,6 @@ unfolding placed
 placed_even t s v y e = rw e
 
 -- ---- one turn of the loops
-
--- a const parameter of type bool, of which proofs have the byte
-abbrev pub flag : ℕ → Bool
-flag n = not (eqb n 0)
 
 -- element e of what is made of s and o
 abbrev pub elements_in : List ℕ → List ℕ → ℕ → Bool → Bool → Bool → Bool → ℕ → ℕ → ℕ

@@ -1,6 +1,8 @@
 -- Document 02, request 1: the bounds of a word's elements, and what the private functions ask of their callers.
 use Rattle.std.specs.Prelude.{◌≡◌, Bool, true, false, List, ◌⊎◌, ℕ, ◌+◌, ◌-◌, ◌*◌, ◌/◌, ◌%◌, ◌^◌, ◌≤◌, ◌<◌, min, ℤ, pos, neg_ℤ}
 use Rattle.std.specs.Int.Signed.{mag}
+use Rattle.narrow.specs.declared.bounds.Bounds.{Bounds}
+use Rattle.narrow.specs.declared.bounds.Bounds.TheVariants.{Signed, Unsigned}
 use Rattle.part.specs.Private.{Width, Lengths}
 use Rattle.element.specs.Contents.{elem, fill}
 use Rattle.element.specs.Files.{vector_file}
@@ -36,11 +38,10 @@ pub record UnsignedBounds (r : Bool) (s shift top h : ℕ) : Type 0 where
   pub greatest : top ≡ top_of r s shift
   pub rounding : h ≡ term r shift
 
--- a word's bounds, computed: those that its class needs
-pub record Prepared (op u r : Bool) (s shift : ℕ) (lo hi : ℤ) (top h : ℕ) : Type 0 where
-  pub sized : Sized s shift
-  pub signed : u ≡ false → SignedBounds op r s shift lo hi
-  pub unsigned : u ≡ true → UnsignedBounds r s shift top h
+-- a word's bounds, computed, in its class
+abbrev pub Prepared : Bool → Bool → Bool → ℕ → ℕ → Bounds → Type 0
+Prepared op u r s shift (Signed lo hi) = (u ≡ false) × SignedBounds op r s shift lo hi
+Prepared op u r s shift (Unsigned top h) = (u ≡ true) × UnsignedBounds r s shift top h
 
 -- an element of 2s bits, in each class
 pub record LowReady (x s shift : ℕ) : Type 0 where
@@ -63,11 +64,19 @@ pub record UnsignedReady (x : ℕ) (r : Bool) (s shift top h : ℕ) : Type 0 whe
   pub sized : Sized s shift
   pub bounds : UnsignedBounds r s shift top h
 
+-- an element of 2s bits of a word, with types of as many
+pub record ElementReady (x : ℕ) (op u r : Bool) (s unsigned shift : ℕ) (a : Bounds) : Type 0 where
+  pub same : unsigned ≡ s
+  pub fit : x < 2 ^ (2 * s)
+  pub sized : Sized s shift
+  pub bounds : Prepared op u r s shift a
+
 -- an element of w bytes
-pub record OneReady (x w : ℕ) (op u r : Bool) (shift : ℕ) (lo hi : ℤ) (top h : ℕ) : Type 0 where
+pub record OneReady (x w : ℕ) (op u r : Bool) (shift : ℕ) (a : Bounds) : Type 0 where
   pub bytes : Width w
   pub fit : x < 2 ^ (8 * w)
-  pub word : Prepared op u r (4 * w) shift lo hi top h
+  pub sized : Sized (4 * w) shift
+  pub bounds : Prepared op u r (4 * w) shift a
 
 -- a result for an element of w bytes
 pub record PlaceReady (v w : ℕ) : Type 0 where
@@ -75,21 +84,23 @@ pub record PlaceReady (v w : ℕ) : Type 0 where
   pub fit : v < 2 ^ (4 * w)
 
 -- n elements of w bytes
-pub record EachReady (from to n w : ℕ) (op u r : Bool) (shift : ℕ) (lo hi : ℤ) (top h : ℕ) : Type 0 where
+pub record EachReady (from to n w : ℕ) (op u r : Bool) (shift : ℕ) (a : Bounds) : Type 0 where
   pub source : from ≡ n * w
   pub target : to ≡ n * w
   pub room : n * w ≤ 256
   pub bytes : Width w
-  pub word : Prepared op u r (4 * w) shift lo hi top h
+  pub sized : Sized (4 * w) shift
+  pub bounds : Prepared op u r (4 * w) shift a
 
 -- n chunks, `per` elements of w bytes in each
-pub record PartsReady (from to n per w : ℕ) (op u r : Bool) (shift : ℕ) (lo hi : ℤ) (top h : ℕ) : Type 0 where
+pub record PartsReady (from to n per w : ℕ) (op u r : Bool) (shift : ℕ) (a : Bounds) : Type 0 where
   pub source : from ≡ n * (per * w)
   pub target : to ≡ n * (per * w)
   pub room : n * (per * w) ≤ 256
   pub chunk : per * w ≤ 256
   pub bytes : Width w
-  pub word : Prepared op u r (4 * w) shift lo hi top h
+  pub sized : Sized (4 * w) shift
+  pub bounds : Prepared op u r (4 * w) shift a
 
 -- so in the slots of a file
 pub record ChunksReady (file n per w shift zn zd : ℕ) : Type 0 where

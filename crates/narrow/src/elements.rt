@@ -20,7 +20,7 @@ fn narrow_all<const W: usize, const OP: bool, const U: bool>(
     shift: u32,
     a: Bounds,
 )
-    requires { EachReady (length s.now) (length o.old) n W OP U r shift a.lo a.hi a.top a.h }
+    requires { EachReady (length s.now) (length o.old) n W OP U r shift a }
     ensures { o.new ≡ fill (λ e. element (form OP U) r t (4 * W) shift (elem W e s.now) (elem W e o.old)) W n }
 {
     for i in 0..n {
@@ -45,7 +45,7 @@ fn narrow_parts<const W: usize, const OP: bool, const U: bool>(
     shift: u32,
     a: Bounds,
 )
-    requires { PartsReady (length s.now) (length o.old) n per W OP U r shift a.lo a.hi a.top a.h }
+    requires { PartsReady (length s.now) (length o.old) n per W OP U r shift a }
     ensures { o.new ≡ fill (λ e. element (form OP U) r t (4 * W) shift (elem W e s.now) (elem W e o.old)) W (n * per) }
 {
     let c = per * W;
@@ -70,7 +70,7 @@ pub(crate) fn narrow_chunks<const W: usize, const OP: bool, const U: bool>(
     requires { ChunksReady (length z.old) n per W shift zn zd }
     ensures { z.new ≡ chunks_of n per W OP U r t shift zn zd z.old }
 {
-    let a = bounds::bounds_of(4 * (W as u64), OP, U, r, shift as u64);
+    let a = bounds::bounds_of::<W, OP, U>(r, shift);
     let m = n * (per * W);
     let from = 256 * zn;
     let last = from + m;

@@ -3,10 +3,31 @@ ghost use Rattle.std.specs.Prelude.{◌≡◌, ◌*◌};
 ghost use Rattle.narrowing.specs.Narrowing.{form};
 ghost use Rattle.narrowing.specs.Points.{narrowed};
 ghost use Rattle.narrowing.specs.Registers.{placed};
-ghost use Rattle.narrow.specs.Private.{OneReady, PlaceReady};
+ghost use Rattle.narrow.specs.Private.{ElementReady, OneReady, PlaceReady};
 
 use crate::bounds::Bounds;
 use crate::{signed, unsigned};
+
+// In the arithmetic of I where the element has a sign, and of N where it has none.
+fn narrow_in<I: signed::Lane, N: unsigned::Lane, const OP: bool, const U: bool>(
+    x: u64,
+    r: bool,
+    shift: u32,
+    a: Bounds,
+) -> u64
+    requires { ElementReady x OP U r I.half N.HALF shift a }
+    ensures { result ≡ narrowed (form OP U) r I.half shift x }
+{
+    match a {
+        Bounds::Signed { lo, hi } => signed::narrowed::<I, OP>(x, r, shift, lo, hi),
+        Bounds::Unsigned { top, h } => {
+            if OP {
+                return unsigned::saturated::<N>(x, r, shift, top, h);
+            }
+            unsigned::low::<N>(x, r, shift)
+        }
+    }
+}
 
 // An element of W bytes.
 pub(crate) fn narrow_one<const W: usize, const OP: bool, const U: bool>(
@@ -15,34 +36,16 @@ pub(crate) fn narrow_one<const W: usize, const OP: bool, const U: bool>(
     shift: u32,
     a: Bounds,
 ) -> u64
-    requires { OneReady x W OP U r shift a.lo a.hi a.top a.h }
+    requires { OneReady x W OP U r shift a }
     ensures { result ≡ narrowed (form OP U) r (4 * W) shift x }
 {
-    if U {
-        if OP {
-            if W == 2 {
-                return unsigned::saturated::<u16>(x, r, shift, a);
-            }
-            if W == 4 {
-                return unsigned::saturated::<u32>(x, r, shift, a);
-            }
-            return unsigned::saturated::<u64>(x, r, shift, a);
-        }
-        if W == 2 {
-            return unsigned::low::<u16>(x, r, shift);
-        }
-        if W == 4 {
-            return unsigned::low::<u32>(x, r, shift);
-        }
-        return unsigned::low::<u64>(x, r, shift);
-    }
     if W == 2 {
-        return signed::narrowed::<i16>(x, OP, r, shift, a);
+        return narrow_in::<i16, u16, OP, U>(x, r, shift, a);
     }
     if W == 4 {
-        return signed::narrowed::<i32>(x, OP, r, shift, a);
+        return narrow_in::<i32, u32, OP, U>(x, r, shift, a);
     }
-    signed::narrowed::<i64>(x, OP, r, shift, a)
+    narrow_in::<i64, u64, OP, U>(x, r, shift, a)
 }
 
 // The result v over the old element y of Zd.

@@ -11,7 +11,6 @@ ghost use Rattle.narrowing.specs.Narrowing.{form, shifted};
 ghost use Rattle.narrowing.specs.Points.{narrowed};
 ghost use Rattle.narrow.specs.Private.{SignedReady, ShiftReady};
 
-use crate::bounds::Bounds;
 use std::ops::{Add, Shr};
 
 // The type of an element of twice `half` bits. Its order and its operators are those of the whole numbers, where the answer fits.
@@ -163,13 +162,16 @@ fn shifted<L: Lane>(y: L, r: bool, shift: u32) -> L
 }
 
 // The result for the element whose bits are x.
-pub(crate) fn narrowed<L: Lane>(x: u64, op: bool, r: bool, shift: u32, a: Bounds) -> u64
-    requires { SignedReady x op r L.half shift a.lo a.hi }
-    ensures { result ≡ narrowed (form op false) r L.half shift x }
+pub(crate) fn narrowed<L: Lane, const OP: bool>(
+    x: u64,
+    r: bool,
+    shift: u32,
+    lo: i64,
+    hi: i64,
+) -> u64
+    requires { SignedReady x OP r L.half shift lo hi }
+    ensures { result ≡ narrowed (form OP false) r L.half shift x }
 {
-    let v = L::read(x);
-    let lo = L::of(a.lo);
-    let hi = L::of(a.hi);
-    let y = v.min(hi).max(lo);
+    let y = L::read(x).min(L::of(hi)).max(L::of(lo));
     shifted(y, r, shift).low()
 }

@@ -6,7 +6,6 @@ ghost use Rattle.narrowing.specs.Narrowing.{form};
 ghost use Rattle.narrowing.specs.Points.{narrowed};
 ghost use Rattle.narrow.specs.Private.{LowReady, UnsignedReady};
 
-use crate::bounds::Bounds;
 use std::ops::{Add, Shr};
 
 // The type of an element of twice HALF bits. Its order and its operators are those of the natural numbers, where the answer fits.
@@ -122,11 +121,11 @@ impl Lane for u64 {
 }
 
 // What lies above `top` is cut before the sum, which then cannot wrap.
-pub(crate) fn saturated<L: Lane>(x: u64, r: bool, shift: u32, a: Bounds) -> u64
-    requires { UnsignedReady x r L.HALF shift a.top a.h }
+pub(crate) fn saturated<L: Lane>(x: u64, r: bool, shift: u32, top: u64, h: u64) -> u64
+    requires { UnsignedReady x r L.HALF shift top h }
     ensures { result ≡ narrowed (form true true) r L.HALF shift x }
 {
-    let y = L::of(x).min(L::of(a.top)) + L::of(a.h);
+    let y = L::of(x).min(L::of(top)) + L::of(h);
     (y >> shift).number()
 }
 

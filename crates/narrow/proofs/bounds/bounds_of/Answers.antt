@@ -1,31 +1,28 @@
 -- `bounds_of` meets its contract: the bounds of the class, by the laws of Computed.
-use mathlib.Core.Path.{◌∙◌}
 use native.Mathlib.Omega.{arith}
-use mir.Syntax.{w64}
-use mir.ValLaws.{to_z-of_z, to_z_pos}
-use Rattle.narrow.proofs.Computed.{room, unsigned_prepared, signed_prepared, term_lt, most, top_is, above_fits, signed_are, term_fits, capped_fits, unsigned_are}
+use Rattle.narrow.proofs.Flags.{flag_set, flag_clear}
+use Rattle.narrow.proofs.Computed.{numbers, term_lt, twice_fits, top_is, signed_are, unsigned_are}
 use Rattle.narrow.proofs.bounds.bounds_of.Goals as goal
 
-pub overflow_sub-result-then-u : goal.overflow_sub-result-then-u
-overflow_sub-result-then-u c = let l = term_lt c.args.r c.args.size c.args.shift _ _ c.requires c.term_of-h.ensures c.power-p.ensures in let m = most c.args.r c.args.size c.args.shift _ _ c.requires c.term_of-h.ensures c.power-p.ensures in omega arith
+pub overflow_sub-result-then-this-ne0 : goal.overflow_sub-result-then-this-ne0
+overflow_sub-result-then-this-ne0 g c = let l = term_lt (numbers c.requires c.from.ensures) in omega arith
 
-pub returns-then-u : goal.returns-then-u
-returns-then-u c = unsigned_prepared c.requires c.if-u.true (top_is c.args.r c.args.size c.args.shift _ _ c.requires c.term_of-h.ensures c.power-p.ensures)
+pub returns-then-this-ne0 : goal.returns-then-this-ne0
+returns-then-this-ne0 g c = (flag_set g.row.U c.if-this-ne0.true, top_is (numbers c.requires c.from.ensures))
 
-pub overflow_add-p : goal.overflow_add-p
-overflow_add-p c = let l = term_lt c.args.r c.args.size c.args.shift _ _ c.requires c.term_of-h.ensures c.power-p.ensures in let m = most c.args.r c.args.size c.args.shift _ _ c.requires c.term_of-h.ensures c.power-p.ensures in record { fits = omega arith }
+pub overflow_add-p-then-this-ne0-2 : goal.overflow_add-p-then-this-ne0-2
+overflow_add-p-then-this-ne0-2 g c = let n = numbers c.requires c.from.ensures in let l = term_lt n in let m = twice_fits n in record { fits = omega arith }
 
-pub overflow_sub-result-then-op-2 : goal.overflow_sub-result-then-op-2
-overflow_sub-result-then-op-2 c = let l = term_lt c.args.r c.args.size c.args.shift _ _ c.requires c.term_of-h.ensures c.power-p.ensures in let m = most c.args.r c.args.size c.args.shift _ _ c.requires c.term_of-h.ensures c.power-p.ensures in omega arith
+pub overflow_sub-result-then-this-ne0-2-2 : goal.overflow_sub-result-then-this-ne0-2-2
+overflow_sub-result-then-this-ne0-2-2 g c = let l = term_lt (numbers c.requires c.from.ensures) in omega arith
 
-pub returns-then-op : goal.returns-then-op
-returns-then-op c = signed_prepared c.requires c.if-u.false (signed_are c.args.r c.args.size c.args.shift _ _ c.requires c.term_of-h.ensures c.power-p.ensures c.args.op _ c.power-q.ensures c.if-op.true c.at_most-b.ensures (to_z-of_z w64 _ (record { sfits = c.minus.type_inv }) ∙ c.minus.ensures) (to_z_pos w64 _ (above_fits c.args.r c.args.size c.args.shift _ _ c.requires c.term_of-h.ensures c.power-p.ensures c.args.op _ c.power-q.ensures)))
+pub returns-then-this-ne0-2 : goal.returns-then-this-ne0-2
+returns-then-this-ne0-2 g c =
+    (flag_clear g.row.U c.if-this-ne0.false, rw (flag_set g.row.OP c.if-this-ne0-2.true) (signed_are (numbers c.requires c.from.ensures) c.min-b.ensures c.wrapping_neg.type_inv c.wrapping_neg.ensures c.cast_signed.ensures))
 
-pub overflow_sub-p-2 : goal.overflow_sub-p-2
-overflow_sub-p-2 c = let l = term_lt c.args.r c.args.size c.args.shift _ _ c.requires c.term_of-h.ensures c.power-p.ensures in let m = most c.args.r c.args.size c.args.shift _ _ c.requires c.term_of-h.ensures c.power-p.ensures in omega arith
-
-pub minus-requires-2 : goal.minus-requires-2
-minus-requires-2 c = term_fits c.args.r c.args.size c.args.shift _ _ c.requires c.term_of-h.ensures c.power-p.ensures c.args.op _ c.power-q.ensures
+pub overflow_sub-p-3 : goal.overflow_sub-p-3
+overflow_sub-p-3 g c = let l = term_lt (numbers c.requires c.from.ensures) in omega arith
 
 pub returns : goal.returns
-returns c = signed_prepared c.requires c.if-u.false (unsigned_are c.args.r c.args.size c.args.shift _ _ c.requires c.term_of-h.ensures c.power-p.ensures c.args.op _ c.power-q.ensures c.if-op.false c.at_most-a.ensures (to_z-of_z w64 _ (record { sfits = c.minus-2.type_inv }) ∙ c.minus-2.ensures) (to_z_pos w64 _ (capped_fits c.args.r c.args.size c.args.shift _ _ c.requires c.term_of-h.ensures c.power-p.ensures c.args.op _ c.power-q.ensures _ _ c.at_most-a.ensures (let l = room c.args.r c.requires in let e = c.power-q.ensures in omega arith))))
+returns g c =
+    (flag_clear g.row.U c.if-this-ne0.false, rw (flag_clear g.row.OP c.if-this-ne0-2.false) (unsigned_are (numbers c.requires c.from.ensures) c.min-a.ensures c.wrapping_neg-2.type_inv c.wrapping_neg-2.ensures c.cast_signed-2.ensures))

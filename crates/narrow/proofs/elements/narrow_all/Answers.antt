@@ -6,7 +6,8 @@ use Rattle.element.specs.Contents.{fill}
 use Rattle.element.proofs.Filling.{again}
 use Rattle.part.proofs.Widths.{element_read, element_stored}
 use Rattle.narrowing.proofs.Placed.{stored_lt}
-use Rattle.narrow.proofs.Places.{elements_in, made, old, flag}
+use Rattle.narrow.proofs.Places.{elements_in, made, old}
+use Rattle.narrow.proofs.Flags.{flag}
 use Rattle.narrow.proofs.elements.narrow_all.Goals as goal
 
 pub loop-i-init : goal.loop-i-init

@@ -4,7 +4,8 @@ use mathlib.Core.List.{◌++◌}
 use Prim.Native.Nat.{◌*◌}
 use lib.ListN.{length, drop}
 use Rattle.element.specs.Contents.{fill}
-use Rattle.narrow.proofs.Places.{elements_in, flag}
+use Rattle.narrow.proofs.Places.{elements_in}
+use Rattle.narrow.proofs.Flags.{flag}
 use Rattle.narrow.proofs.elements.narrow_all.Given as goal
 
 abbrev pub invariant-loop-i : goal.invariant-loop-i

@@ -9,7 +9,7 @@ use Rattle.element.proofs.Slots.{slot_part, slot_length}
 use Rattle.narrowing.specs.Narrowing.{form}
 use Rattle.narrowing.specs.Registers.{element}
 use Rattle.narrow.proofs.Chunks.{slot_made}
-use Rattle.narrow.proofs.Places.{flag}
+use Rattle.narrow.proofs.Flags.{flag}
 use Rattle.narrow.proofs.elements.narrow_chunks.Goals as goal
 
 pub returns : goal.returns

@@ -5,8 +5,9 @@ use Rattle.element.specs.Contents.{fill}
 use Rattle.element.proofs.Filling.{chunk}
 use Rattle.narrowing.specs.Narrowing.{form}
 use Rattle.narrowing.specs.Registers.{element}
-use Rattle.narrow.proofs.Places.{elements_in, flag}
+use Rattle.narrow.proofs.Places.{elements_in}
 use Rattle.narrow.proofs.Chunks.{chunk_made}
+use Rattle.narrow.proofs.Flags.{flag}
 use Rattle.narrow.proofs.elements.narrow_parts.Goals as goal
 
 pub loop-i-init : goal.loop-i-init
