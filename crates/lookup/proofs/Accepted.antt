@@ -1,12 +1,11 @@
 -- An accepted call meets what the private functions ask: each test of the Bool definition, read as a fact.
-use mathlib.Core.Path.{◌≡◌, refl, sym, ◌∙◌}
-use mathlib.Core.Bool.{Bool, true, false, ◌&&◌, ◌||◌}
+use mathlib.Core.Path.{◌≡◌, refl}
+use mathlib.Core.Bool.{true, ◌&&◌, ◌||◌}
 use mathlib.Core.Logic.{⊎_map, inr}
-use Prim.Native.Nat.{ℕ, ◌+◌, ◌*◌, ◌≤◌, ◌<◌}
-use native.Mathlib.Decide.{dec_lt}
+use Prim.Native.Nat.{ℕ, ◌+◌, ◌*◌, ◌<◌}
 use native.Mathlib.Omega.{arith}
 use lib.Dec.{eqb, ltb, lit<}
-use borrow.Author.Tests.{eqb-true, ltb-true, lt-ltb, le-ltb, ne_eqb}
+use borrow.Author.Tests.{eqb-true, ltb-true}
 use Rattle.setting.specs.Allowed.{length_allowed}
 use Rattle.element.specs.Files.{vector_file, table_file}
 use Rattle.element.proofs.Tests.{both_yes, one_yes}
@@ -41,20 +40,3 @@ module _ (z zt vl size i1 zn first stride : ℕ) (ready : luti4_ready z zt vl si
         },
         ltb-true i1 2 k.1,
       )
-
-ltb_add : (a b k : ℕ) → ltb a b ≡ ltb (a + k) (b + k)
-ltb_add a b k = split (dec_lt a b) where
-  split : Dec (a < b) → ltb a b ≡ ltb (a + k) (b + k)
-  split (yes h) = lt-ltb a b h ∙ sym (lt-ltb (a + k) (b + k) (omega arith))
-  split (no h) = let l : b ≤ a = omega arith in le-ltb a b l ∙ sym (le-ltb (a + k) (b + k) (omega arith))
-
--- consecutive destinations
-pub fits_consecutive : (first stride : ℕ) → stride ≡ 1 → ltb first 29 ≡ four_fit first stride
-fits_consecutive first stride e = rw e (ltb_add first 29 3)
-
--- and strided ones
-pub fits_strided : (first stride : ℕ) → (stride ≡ 1 → ⊥) → (eqb stride 4 && ltb first 20) ≡ four_fit first stride
-fits_strided first stride n = split (eqb stride 4) refl where
-  split : (b : Bool) → eqb stride 4 ≡ b → (eqb stride 4 && ltb first 20) ≡ four_fit first stride
-  split true e = rw (eqb-true stride 4 e) (ltb_add first 20 12)
-  split false e = rw (e, ne_eqb stride 1 n)

@@ -1,8 +1,8 @@
 -- The bytes of two numbers are those of one, the second raised past the first: bytes split at any place, and what is past them does not count. Over the width.
 use mathlib.Core.Path.{◌≡◌, refl, sym, ap, ◌∙◌}
 use mathlib.Core.List.{◌++◌}
-use Prim.Native.Nat.{ℕ, zero, suc, ◌+◌, ◌*◌, ◌/◌, ◌%◌, ◌^◌, ◌≤◌, ◌<◌}
-use native.Mathlib.Nat.{zero-add, suc-add, pow-suc, mul_comm, mul_assoc, div-one, div-div-eq-div-mul, mod-add-div, mod-lt, div-eq_of_lt, add-mul-div_right, mul-le-mul, suc-mul}
+use Prim.Native.Nat.{ℕ, zero, suc, ◌+◌, ◌*◌, ◌/◌, ◌%◌, ◌^◌, ◌<◌}
+use native.Mathlib.Nat.{zero-add, suc-add, pow-suc, mul_comm, mul_assoc, div-one, div-div-eq-div-mul, mod-add-div, mod-lt, div-eq_of_lt, add-mul-div_right}
 use native.Mathlib.Omega.{arith}
 use lib.Dec.{lit<}
 use Rattle.element.specs.Contents.{bytes}
@@ -41,10 +41,3 @@ both_bytes w x y =
     let d : (x % 256 ^ w + y % 256 ^ w * 256 ^ w) / 256 ^ w ≡ y % 256 ^ w = add-mul-div_right (x % 256 ^ w) (y % 256 ^ w) p ∙ rw (div-eq_of_lt (mod-lt x p)) (omega arith) in
     let c : x % 256 ^ w + y % 256 ^ w * 256 ^ w ≡ x % 256 ^ w + 256 ^ w * (y % 256 ^ w) = rw (mul_comm (y % 256 ^ w) (256 ^ w)) in
     split_at w w (x % 256 ^ w + y % 256 ^ w * 256 ^ w) ∙ rw (d, c, above_cut w (x % 256 ^ w) (y % 256 ^ w), cut w x, cut w y)
-
--- the number of both fits 64 bits where each fits 32
-pub both_below : (m x y : ℕ) → 0 < m → m ≤ 4294967296 → x % m + y % m * m < 18446744073709551616
-both_below m x y p h =
-    let l : suc (y % m) ≤ 4294967296 = omega (arith, mod-lt y p) in
-    let q : suc (y % m) * m ≤ 4294967296 * 4294967296 = mul-le-mul l h in
-    omega (arith, mod-lt x p, suc-mul (y % m) m)

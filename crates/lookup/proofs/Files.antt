@@ -1,13 +1,13 @@
 -- A destination's part come back is its slot set as the definition says: by the lengths of what was made, and the indexes' places in the copy of Zn.
 use mathlib.Core.Path.{◌≡◌, sym, ap, ◌∙◌}
-use mathlib.Core.List.{List, ◌++◌, append-nil}
+use mathlib.Core.List.{List}
 use Prim.Native.Nat.{ℕ, ◌+◌, ◌-◌, ◌*◌, ◌/◌, ◌≤◌, ◌<◌}
 use native.Mathlib.Nat.{mul_assoc}
 use native.Mathlib.Numerals.{add-one}
 use native.Mathlib.Omega.{arith}
-use lib.ListN.{length, take, drop, drop_of_length-le}
+use lib.ListN.{length, take, drop}
 use lib.Dec.{lit<}
-use lib.Seq.{take_all, take-take}
+use lib.Seq.{take-take}
 use borrow.Rule.Slice.PartMut.{put_mid}
 use Rattle.element.specs.Contents.{elem, field, fill}
 use Rattle.element.specs.Slots.{slot}
@@ -25,17 +25,6 @@ part i n s = take (i + n - i) (drop i s)
 -- the elements that the code makes of them
 abbrev made : ℕ → ℕ → ℕ → List ℕ → List ℕ → List ℕ
 made w i n s zt = fill (λ e. elem 4 (field index_bits e (part i n s)) zt) w (length (part i n s) * 2)
-
--- a buffer as long as a slot, into which the slot was copied
-pub copied : (k : ℕ) (f s₀ s : List ℕ)
-    → 256 * k + 256 ≤ length f
-    → length s₀ ≡ 256
-    → s ≡ take (length (part (256 * k) 256 f)) (part (256 * k) 256 f) ++ drop (length (part (256 * k) 256 f)) s₀
-    → s ≡ slot 256 256 k f
-copied k f s₀ s h l e =
-    let n = slot_length 256 256 k f h in
-    let d : length s₀ ≤ 256 = omega arith in
-    e ∙ rw (slot_part 256 256 k f h, n, take_all 256 (slot 256 256 k f) (omega arith), drop_of_length-le s₀ d, append-nil)
 
 -- the low bytes of the whole slot
 low_bytes : (n k : ℕ) (f : List ℕ) → n ≤ 256 → 256 * k + 256 ≤ length f → take n (slot 256 256 k f) ≡ slot 256 n k f

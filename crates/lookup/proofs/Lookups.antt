@@ -4,17 +4,16 @@ use mathlib.Core.Logic.{⊎_elim, inl, inr}
 use mathlib.Core.List.{List}
 use Prim.Native.Nat.{ℕ, ◌+◌, ◌-◌, ◌*◌, ◌/◌, ◌%◌, ◌^◌, ◌≤◌, ◌<◌}
 use native.Mathlib.Omega.{arith}
-use lib.ListN.{length, take, drop, get_or, set, length-take, length-drop}
-use lib.Seq.{get_or-take, get_or-drop, get_or-set_same, get_or-set_other}
-use borrow.Author.Count.{below_more}
+use lib.ListN.{length, take, drop, get_or, length-take, length-drop}
+use lib.Seq.{get_or-take, get_or-drop}
 use Rattle.element.specs.Contents.{bytes, elem, field, fill}
 use Rattle.element.proofs.Filling.{part_length, same}
 use Rattle.part.specs.Parts.{stored_of}
 use Rattle.part.specs.Private.{Width}
 use Rattle.part.proofs.Widths.{element_stored}
 use Rattle.lookup.specs.Lookup.{index_bits}
-use Rattle.lookup.specs.Private.{ElementBytes, Raised}
-use Rattle.lookup.proofs.Bytes.{both_bytes, both_below}
+use Rattle.lookup.specs.Private.{ElementBytes}
+use Rattle.lookup.proofs.Bytes.{both_bytes}
 
 -- what the code's arithmetic asks of an element's width
 pub record Sizes (w : ℕ) : Type 0 where
@@ -74,20 +73,6 @@ pair_stored {x} {y} m w q n s zt o l e v p h ex ey st =
     element_stored q n (2 * w) o l e (sizes v).double (x % m + y) st
     ∙ ap (λ (k : ℕ). bytes k (x % m + y)) (part_length q n (2 * w) o l e)
     ∙ byte_looked m w q s zt p h ex ey
-
--- ---- the table's raised entries: one more, and a sum with any of them
-pub raised_more : (m i v : ℕ) (zt t : List ℕ) → i < length t → v ≡ elem 4 i zt
-    → ((k : ℕ) → k < i → get_or t k 0 ≡ elem 4 k zt % m * m)
-    → (k : ℕ) → k < i + 1 → get_or (set t i (v % m * m)) k 0 ≡ elem 4 k zt % m * m
-raised_more m i v zt t h e all =
-    below_more
-    (λ k. get_or (set t i (v % m * m)) k 0 ≡ elem 4 k zt % m * m)
-    i
-    (λ k l. get_or-set_other t i k (v % m * m) 0 (λ (q : k ≡ i). omega arith) ∙ all k l)
-    (get_or-set_same t i (v % m * m) 0 h ∙ ap (λ (x : ℕ). x % m * m) e)
-
-pub sum_below : (m x i : ℕ) (zt high : List ℕ) → Raised m zt high → 0 < m → m ≤ 4294967296 → i < 16 → x % m + get_or high i 0 < 18446744073709551616
-sum_below m x i zt high r p h l = rw (r i l) (both_below m x (elem 4 i zt) p h)
 
 -- ---- the indexes of a part
 pub taken_length : {k n : ℕ} (i : ℕ) (s : List ℕ) → k ≡ n → i + n ≤ length s → length (take k (drop i s)) ≡ n

@@ -1,6 +1,6 @@
 -- No index leaves Zn and no destination the file: a segment's destinations times the index width are at most the result's bits.
 use mathlib.Core.Path.{◌≡◌, sym, ap, ◌∙◌}
-use mathlib.Core.Logic.{⊎_elim, ⊎_map, ◌⊎◌}
+use mathlib.Core.Logic.{⊎_elim, ⊎_map}
 use Prim.Native.Nat.{ℕ, suc, ◌+◌, ◌*◌, ◌/◌, ◌%◌, ◌≤◌, ◌<◌}
 use native.Mathlib.Nat.{one-mul, mul-pos, mod-lt, mul_assoc, mul_comm, mul-suc, mul-le-mul_left, mul-le-mul_right, le_trans, suc-mul, div-mul-le_self, mul-div-le, le-div_iff_mul-le}
 use native.Mathlib.Omega.{arith}
@@ -58,12 +58,13 @@ each_is {s} vl e r =
 pub elements_are : {s : ℕ} (vl : ℕ) → vl % 128 ≡ 0 → Result s → vl / s * (s / 8) ≡ vl / 8
 elements_are vl e r = ⊎_elim (λ b. rw b (omega arith)) (λ b. rw b (omega arith)) r
 
--- the one of two that is left
-pub second : {A B : Type 0} → A ⊎ B → (A → ⊥) → B
-second h n = ⊎_elim (λ a. absurd (n a)) (λ b. b) h
+-- the element's width of a size
+pub element_of_lem : {w : ℕ} → Result (8 * w) → ElementBytes w
+element_of_lem r = ⊎_map (λ b. omega arith) (λ b. omega arith) r
 
-pub element_of_lem : {s : ℕ} → Result s → ElementBytes (s / 8)
-element_of_lem r = ⊎_map (λ b. rw b) (λ b. rw b) r
+-- a destination's bytes of indexes, by the element's width
+pub each_by : {w : ℕ} (vl : ℕ) → ElementBytes w → vl / (16 * w) ≡ vl / (8 * w) * 4 / 8
+each_by vl h = ⊎_elim (λ b. rw b (omega arith)) (λ b. rw b (omega arith)) h
 
 -- what the code's arithmetic asks at destination r, which has `each` bytes of indexes
 pub record Turn (vl d segment first stride each r : ℕ) : Type 0 where

@@ -25,21 +25,15 @@ pub record EntryReady (table i : ℕ) : Type 0 where
 abbrev pub Raised : ℕ → List ℕ → List ℕ → Type 0
 Raised m table high = (i : ℕ) → i < 16 → get_or high i 0 ≡ elem 4 i table % m * m
 
-pub record RaisedReady (table m : ℕ) : Type 0 where
-  pub entries : table ≡ table_file
-  pub some : 0 < m
-  pub most : m ≤ 4294967296
-
 pub record TableReady (table w : ℕ) : Type 0 where
   pub entries : table ≡ table_file
   pub bytes : ElementBytes w
 
 -- two elements of w bytes for each byte of indexes
-pub record PairsReady (source room m w : ℕ) (table high : List ℕ) : Type 0 where
+pub record PairsReady (source room w : ℕ) (table high : List ℕ) : Type 0 where
   pub entries : length table ≡ table_file
-  pub raised : Raised m table high
+  pub raised : Raised (256 ^ w) table high
   pub bytes : ElementBytes w
-  pub power : m ≡ 256 ^ w
   pub whole : room ≡ source * (2 * w)
 
 -- fewer bytes of indexes than 64 bytes of elements have, or those of some such

@@ -4,43 +4,48 @@ use mathlib.Core.Path.{subst}
 use Rattle.element.proofs.Slots.{slot_length, part_length}
 use Rattle.lookup.specs.Lookup.{luti_file}
 use Rattle.lookup.specs.Private.{Chunked}
-use Rattle.lookup.proofs.Places.{element_of_lem, turn_at}
+use Rattle.lookup.proofs.Places.{element_of_lem, each_by, turn_at}
 use Rattle.lookup.proofs.Files.{room_is, turned}
 use Rattle.lookup.proofs.Chunks.{chunked}
 use Rattle.lookup.proofs.table.four_destinations.Goals as goal
 
 pub loop-r-init : goal.loop-r-init
 unfolding luti_file
-loop-r-init c = refl
+loop-r-init g c = refl
 
-pub look_by-requires : goal.look_by-requires
-look_by-requires c =
+pub look-requires : goal.look-requires
+look-requires g c =
     let a = c.args in
     let p = c.requires in
     let l = c.loop-r in
-    let b = c.index_bytes-each in
+    let w = g.row.W in
+    let v = element_of_lem p.result in
+    let is = each_by a.vl v in
     let s = c.slot_of-s in
-    let t = turn_at p l.r c.loop-r-test.true b.ensures in
-    let n : length s.result ≡ 256 = ap length s.ensures ∙ slot_length 256 256 a.zn a.z.now (omega arith) in (
+    let t = turn_at p l.r c.loop-r-test.true is in
+    let n : length s.result ≡ 256 = ap length s.ensures ∙ slot_length 256 256 a.zn a.z.now (omega arith) in
+    let eight : 8 * w / 8 ≡ w = omega arith in (
       record {
         entries = p.entries;
-        raised = c.raised_by-high.ensures;
-        bytes = element_of_lem p.result;
-        power = refl;
+        raised = c.raised-high.ensures;
+        bytes = v;
         whole =
             part_length 256 (a.vl / 8) (a.first + a.stride * l.r) l.z (omega arith)
-            ∙ sym (room_is p b.ensures)
-            ∙ ap (λ (x : ℕ). x * (2 * (a.size / 8))) (simp (length-take, length-drop) (omega arith));
+            ∙ sym (rw eight at (room_is p is))
+            ∙ ap (λ (x : ℕ). x * (2 * w)) (simp (length-take, length-drop) (omega arith));
       },
-      subst (λ (x : ℕ). Chunked x (a.size / 8)) (simp (length-take, length-drop) (omega arith)) (chunked a.vl a.size p.allowed p.result),
+      subst (λ (x : ℕ). Chunked x w) (simp (length-take, length-drop) (omega arith)) (chunked a.vl p.allowed v),
     )
 
 pub loop-r-preserved : goal.loop-r-preserved
-loop-r-preserved c =
+loop-r-preserved g c =
     let a = c.args in
     let p = c.requires in
     let l = c.loop-r in
-    let b = c.index_bytes-each in
+    let w = g.row.W in
+    let v = element_of_lem p.result in
+    let is = each_by a.vl v in
     let s = c.slot_of-s in
-    let t = turn_at p l.r c.loop-r-test.true b.ensures in
-    turned p b.ensures l.r a.zt.now a.z.now l.z s.result _ (omega arith) (omega arith) (omega arith) s.ensures l.invariant c.look_by.ensures
+    let eight : 8 * w / 8 ≡ w = omega arith in
+    let t = turn_at p l.r c.loop-r-test.true is in
+    turned p is l.r a.zt.now a.z.now l.z s.result _ (omega arith) (omega arith) (omega arith) s.ensures l.invariant (rw eight c.look.ensures)

@@ -4,4 +4,4 @@ use Rattle.element.specs.Contents.{elem}
 use Rattle.lookup.proofs.table.raised.Given as goal
 
 abbrev pub invariant-loop-i : goal.invariant-loop-i
-invariant-loop-i l = (length l.t ≡ 16) × ((k : ℕ) → k < l.i → get_or l.t k 0 ≡ elem 4 k l.zt % l.m * l.m)
+invariant-loop-i g l = (length l.t ≡ 16) × ((k : ℕ) → k < l.i → get_or l.t k 0 ≡ elem 4 k l.zt % l.m * l.m)
