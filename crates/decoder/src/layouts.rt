@@ -8,7 +8,7 @@ use encoding::table;
 use encoding::table::ROWS;
 use std::hint::select_unpredictable;
 
-// The field condition of the row at a place of the table; not met past its end.
+// The field condition of the row at a place of the table; not met past its end. (Why a place is a number: crates/encoding/src/table.rt.)
 fn condition(place: usize, word: u32) -> bool
     ensures { result ≡ condition_at rows place word }
 {

@@ -5,7 +5,7 @@ ghost use Rattle.encoding.specs.Layout.{fixed_of};
 ghost use Rattle.encoding.specs.Places.{layout_at, features_at, has_layout};
 ghost use Rattle.encoding.specs.Private.{feature_bits};
 
-// The number of rows, and the place of no row.
+// The number of rows. A place is a number and no enum: `has_layout`, `fixed_bits` and `available` promise an answer for every number.
 pub const ROWS: usize = 6;
 
 // The bits that a layout fixes, and what it fixes them to.

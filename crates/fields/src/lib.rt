@@ -128,7 +128,7 @@ impl From<NarrowOperands> for Instruction {
     }
 }
 
-// PSEL's tszh:tszl.
+// PSEL's tszh:tszl. Three numbers of the page differ from `narrow_tsz`: as parameters they would say less than the page's own.
 fn psel_tsz(word: u32) -> u32
     ensures { result ≡ word / 0x400000 % 2 * 8 + word / 0x40000 % 8 }
 {

@@ -20,13 +20,14 @@ pub struct Scalars {
     pub t: bool,
 }
 
+// A step's answer; the record comes back by value where the word is refused too (document 01), so no Result of it.
 #[derive(Clone, Copy)]
 pub struct Stepped {
     pub answer: Answer,
     pub scalars: Scalars,
 }
 
-// The answer of a run, and how many words were done.
+// The answer of a run, and how many words were done: of a refused run too (document 01), so no Result of them.
 #[derive(Clone, Copy)]
 pub struct Ran {
     pub answer: Answer,

@@ -84,7 +84,7 @@ fn narrow(bits: u32, size: u32, shift: u32, zn: u32, zd: u32) -> Result<Instruct
     Err(Refusal::OutOfRange)
 }
 
-// The instruction of a form with these fields; a form has at most six.
+// The instruction of a form with these fields; a form has at most six. A form's number is the C interface's (`instruction_of`): no enum.
 fn named(form: u32, a: u32, b: u32, c: u32, d: u32, e: u32, f: u32) -> Result<Instruction, Refusal>
     ensures { decoded_as result ≡ instruction_at form a b c d e f }
 {
