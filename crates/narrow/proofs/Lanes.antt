@@ -78,9 +78,6 @@ clamp_is x lo hi o = grind (arith, ints)
 
 -- ---- rounded by halving in the end, or not rounded
 
-pub one_fits : (s : ℕ) → 3 ≤ s → 1 < 2 ^ (2 * s - 1)
-one_fits s some = let h : 1 ≤ 2 * s - 1 = omega arith in let p = pow_mono h in omega arith
-
 room : (s : ℕ) → 3 ≤ s → 2 ^ s * 4 ≤ 2 ^ (2 * s - 1)
 room s some =
     let e : 2 ^ (s + 2) ≡ 2 ^ s * 4 = pow-add 2 s 2 in

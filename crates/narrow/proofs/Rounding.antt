@@ -98,10 +98,6 @@ module _ {x : ℕ} {r : Bool} {s k t h : ℕ} (p : UnsignedReady x r s k t h) wh
 
 -- ---- the low half
 
-pub byte_le : (r : Bool) → bool_byte r ≤ 1
-byte_le false = omega arith
-byte_le true = omega arith
-
 pub byte_bit : (r : Bool) → bool_byte r ≡ bit r
 byte_bit false = refl
 byte_bit true = refl

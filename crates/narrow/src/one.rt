@@ -49,6 +49,7 @@ pub(crate) fn narrow_one<const W: usize, const OP: bool, const U: bool>(
 }
 
 // The result v over the old element y of Zd.
+#[tactic(auto, using(crate::proofs::Places::m_is), unfolding(narrowing::specs::Registers::placed))]
 pub(crate) fn place<const W: usize>(y: u64, v: u64, t: bool) -> u64
     requires { PlaceReady v W }
     ensures { result ≡ placed t (4 * W) v y }
