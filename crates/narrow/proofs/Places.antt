@@ -3,7 +3,7 @@ use mathlib.Core.Path.{◌≡◌, ◌∙◌}
 use mathlib.Core.Bool.{Bool}
 use mathlib.Core.Logic.{⊎_elim}
 use mathlib.Core.List.{List, ◌++◌}
-use Prim.Native.Nat.{ℕ, ◌*◌, ◌%◌, ◌^◌, ◌≤◌, ◌<◌}
+use Prim.Native.Nat.{ℕ, ◌*◌, ◌%◌, ◌^◌, ◌≤◌}
 use native.Mathlib.Omega.{arith}
 use lib.ListN.{drop}
 use lib.Seq.{drop_at}
@@ -13,20 +13,15 @@ use Rattle.part.specs.Private.{Width}
 use Rattle.narrowing.specs.Narrowing.{Form, form}
 use Rattle.narrowing.specs.Points.{narrowed}
 use Rattle.narrowing.specs.Registers.{placed, element}
-use Rattle.narrow.specs.Private.{PlaceReady}
 use Rattle.narrow.proofs.Computed.{one_shl}
 
-pub width_le : {w : ℕ} → Width w → (2 ≤ w) × (w ≤ 8)
+width_le : {w : ℕ} → Width w → (2 ≤ w) × (w ≤ 8)
 width_le h = ⊎_elim (λ e. (omega arith, omega arith)) (⊎_elim (λ e. (omega arith, omega arith)) (λ e. (omega arith, omega arith))) h
 
 -- ---- placing
 
-module _ {v w : ℕ} (p : PlaceReady v w) where
-  pub narrow : 4 * w < 64
-  narrow = let a = width_le p.bytes in omega arith
-
-  pub m_is : (1 * 2 ^ (4 * w)) % 2 ^ 64 ≡ 2 ^ (4 * w)
-  m_is = one_shl (4 * w) narrow
+pub m_is : {w : ℕ} → Width w → (1 * 2 ^ (4 * w)) % 2 ^ 64 ≡ 2 ^ (4 * w)
+m_is {w} h = let l = width_le h in one_shl (4 * w) (omega arith)
 
 -- ---- one turn of the loops
 
