@@ -1,6 +1,5 @@
-// The elements of a register, a chunk of them at a time. Each call has literals, so that the compiler makes a loop for each: the
-// width, the bits, and at VL 2048 the chunks, two of 128 bytes, for which it makes straight code. To 8 bits, at a shorter length, the
-// elements are one chunk: it would take chunks of 16 bytes together, which is slower by far (docs/DECISIONS.md).
+// The elements of a register, a chunk of them at a time. Each call of `narrow_chunks` has literals, so that the compiler makes a loop for
+// each: the width and the bits, and at VL 2048 the chunks, two of 128 bytes, for which it makes straight code (docs/DECISIONS.md).
 ghost use Rattle.std.specs.Prelude.{◌≡◌, ◌*◌, ◌/◌, ◌≤◌, length};
 ghost use Rattle.element.specs.Contents.{elem, fill};
 ghost use Rattle.narrowing.specs.Narrowing.{form};
@@ -88,7 +87,8 @@ pub(crate) fn narrow_chunks<const W: usize, const OP: bool, const U: bool>(
     narrow_parts::<W, OP, U>(&s[..m], &mut z[to..end], n, per, r, t, shift, a);
 }
 
-// The n chunks of 16 bytes, cut as the compiler makes the fastest loops of them.
+// The n chunks of 16 bytes, in other chunks. To 8 bits, below VL 2048, the elements are one chunk: the compiler would take chunks of 16
+// bytes together, which is slower by far (docs/DECISIONS.md).
 #[inline(always)]
 pub(crate) fn narrow_cut<const W: usize, const OP: bool, const U: bool>(
     z: &mut [u8],
