@@ -20,14 +20,14 @@ pub(crate) fn even_saturated<const W: usize>(
     requires length { Chunks n }
     ensures { z.new ≡ chunks_of n (16 / W) W true true r false shift zn zd z.old }
 {
-    if n == 1 {
-        return narrow_chunks::<W, true, true>(z, 1, 16 / W, r, false, shift, zn, zd);
+    if n == 16 {
+        return narrow_chunks::<W, true, true>(z, 2, 128 / W, r, false, shift, zn, zd);
     }
     if n == 2 {
         return narrow_chunks::<W, true, true>(z, 1, 32 / W, r, false, shift, zn, zd);
     }
-    if n == 16 {
-        return narrow_chunks::<W, true, true>(z, 2, 128 / W, r, false, shift, zn, zd);
+    if n == 1 {
+        return narrow_chunks::<W, true, true>(z, 1, 16 / W, r, false, shift, zn, zd);
     }
     middle::<W>(z, n, r, shift, zn, zd);
 }
