@@ -4,25 +4,20 @@ use mathlib.Core.List.{List, ◌++◌}
 use Prim.Native.Nat.{ℕ, ◌+◌, ◌-◌, ◌*◌, ◌≤◌, ◌<◌}
 use native.Mathlib.Nat.{add-mul, mul_assoc}
 use native.Mathlib.Omega.{arith}
-use lib.ListN.{length, take, drop, length-drop, take-append-drop}
-use lib.Seq.{take-append-le, drop-append-le, drop_at, drop-drop, length-take-le}
+use lib.ListN.{length, take, drop, length-drop}
+use lib.Seq.{drop_at, drop-drop}
 use borrow.Rule.Slice.PartMut.{put_mid}
+use Rattle.std.proofs.lemmas.List.{drop-take, take-take}
 use Rattle.element.specs.Contents.{num, elem, fill}
 use Rattle.element.specs.Slots.{slot, set_slot}
 use Rattle.element.proofs.Filling.{fill_length, same, span, turn}
 use Rattle.element.proofs.Slots.{slot_part, put_back}
 
--- before the end of p, whatever follows it
-front : (p q : List ℕ) (a m : ℕ) → a + m ≤ length p → take m (drop a (p ++ q)) ≡ take m (drop a p)
-front p q a m h =
-    let d : a ≤ length p = omega arith in
-    let t : m ≤ length (drop a p) = simp length-drop (omega arith) in
-    rw (drop-append-le a p q d, take-append-le m (drop a p) q t)
-
-within : (m a n : ℕ) (l : List ℕ) → a + n ≤ m → m ≤ length l → take n (drop a (take m l)) ≡ take n (drop a l)
-within m a n l h b =
-    let t : a + n ≤ length (take m l) = rw (length-take-le m l b) h in
-    sym (front (take m l) (drop m l) a n t) ∙ ap (λ (x : List ℕ). take n (drop a x)) (take-append-drop m l)
+within : (m a n : ℕ) (l : List ℕ) → a + n ≤ m → take n (drop a (take m l)) ≡ take n (drop a l)
+within m a n l h =
+    let e : m ≡ a + (m - a) = omega arith in
+    let k : n ≤ m - a = omega arith in
+    rw (e, drop-take a (m - a) l) (take-take n (m - a) (drop a l) k)
 
 -- element j of the chunk of c bytes at i
 in_chunk : (w per c n i j : ℕ) (s : List ℕ) → per * w ≡ c → i < n → j < per → length s ≡ n * c → elem w j (take (i * c + c - i * c) (drop (i * c) s)) ≡ elem w (i * per + j) s
@@ -32,7 +27,7 @@ in_chunk w per c n i j s whole h g l =
     let u = turn i n c h in
     let d = length-drop (i * c) s in
     let q : i * c + j * w ≡ (i * per + j) * w = sym (add-mul (i * per) j w ∙ ap (λ (m : ℕ). m + j * w) (mul_assoc i per w ∙ ap (λ (m : ℕ). i * m) whole)) in
-    rw (span i c) (ap num (within c (j * w) w (drop (i * c) s) t (omega arith) ∙ ap (take w) (drop-drop (j * w) (i * c) s ∙ ap (λ (m : ℕ). drop m s) q)))
+    rw (span i c) (ap num (within c (j * w) w (drop (i * c) s) t ∙ ap (take w) (drop-drop (j * w) (i * c) s ∙ ap (λ (m : ℕ). drop m s) q)))
 
 -- chunk i is the old one while those before it are written
 unwritten : (f : ℕ → ℕ) (w per i : ℕ) (o₀ o : List ℕ) → o ≡ fill f w (i * per) ++ drop (i * (per * w)) o₀ → drop (i * (per * w)) o ≡ drop (i * (per * w)) o₀

@@ -3,7 +3,7 @@ use mathlib.Core.Path.{◌≡◌, refl, sym, ap, ◌∙◌}
 use mathlib.Core.Bool.{Bool, true, false}
 use mathlib.Core.Logic.{◌⊎◌, inl, inr, ⊎_elim}
 use Prim.Native.Nat.{ℕ, suc, ◌+◌, ◌-◌, ◌*◌, ◌/◌, ◌^◌, ◌≤◌, ◌<◌, min}
-use native.Mathlib.Nat.{mul-suc, mul-zero, mul-one, mul_assoc, mul-sub, mul_comm, div-add-mod, mod-lt, mul-le-mul_left, mul-div_right, mul-add, mul-add-div, div-eq_of_lt, le-mul_of_pos_right, min-eq_left, min-eq_right, div-div-eq-div-mul, add-div_right}
+use native.Mathlib.Nat.{mul-suc, mul-zero, mul-one, mul_assoc, mul-sub, mul_comm, div-lt_iff_lt-mul, le-div_iff_mul-le, mul-le-mul_left, mul-div_right, mul-add, mul-add-div, div-eq_of_lt, le-mul_of_pos_right, min-eq_left, min-eq_right, div-div-eq-div-mul, add-div_right}
 use native.Mathlib.Decide.{dec_lt}
 use native.Mathlib.Omega.{arith}
 use lib.Pow.{pow_pos, pow-add, pow-lt}
@@ -19,18 +19,10 @@ use Rattle.narrow.specs.Private.{below, above}
 
 module _ (m h : ℕ) (some : 0 < m) where
   quot_lt : (x l : ℕ) → x + h < m * l → (x + h) / m < l
-  quot_lt x l b = by (dec_lt ((x + h) / m) l)
-    where
-      by : Dec ((x + h) / m < l) → (x + h) / m < l
-      by (yes d) = d
-      by (no n) = let d : l ≤ (x + h) / m = omega arith in absurd (omega (arith, mul-le-mul_left m d, div-add-mod (x + h) m))
+  quot_lt x l b = (div-lt_iff_lt-mul some).1 (rw (mul_comm l m) b)
 
   quot_le : (x l : ℕ) → m * l ≤ x + h → l ≤ (x + h) / m
-  quot_le x l b = by (dec_lt ((x + h) / m) l)
-    where
-      by : Dec ((x + h) / m < l) → l ≤ (x + h) / m
-      by (yes d) = absurd (omega (arith, rw mul-suc at (mul-le-mul_left m d), div-add-mod (x + h) m, mod-lt (x + h) some))
-      by (no n) = omega arith
+  quot_le x l b = (le-div_iff_mul-le some).1 (rw (mul_comm l m) b)
 
   -- the second case of low and of high is the bound's cap, which no element passes
   clamped : (l g a b x : ℕ)

@@ -100,9 +100,6 @@ module _ {r : Bool} {s k h p q : ℕ} (n : Numbers r s k h p q) where
   pub term_lt : h < p
   term_lt = let a = room r n.sized in let e = n.term in let f = n.half in omega arith
 
-  pub twice_fits : p + p ≤ 2 ^ 64
-  twice_fits = let a = room r n.sized in let f = n.half in omega arith
-
   pub top_is : UnsignedBounds r s k (p - 1 + (p - h)) h
   unfolding top_of
   top_is = let a = room r n.sized in let e = n.term in let f = n.half in record { greatest = omega arith; rounding = e }

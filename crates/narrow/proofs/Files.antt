@@ -8,12 +8,11 @@ use native.Mathlib.Omega.{arith}
 use Rattle.logic.specs.Pick.{pick}
 use Rattle.element.specs.Size.{is_result}
 use Rattle.element.specs.Slots.{slot, set_slot}
-use Rattle.part.specs.Private.{Width}
 use Rattle.narrowing.specs.Narrowing.{form}
 use Rattle.narrowing.specs.Registers.{narrow_of}
-use Rattle.narrow.specs.Private.{ChunksReady, LengthReady, chunks_of, NarrowReady}
+use Rattle.narrow.specs.Private.{chunks_of, NarrowReady}
 
-module _ {file vl s shift zn zd : ℕ} (ready : NarrowReady file vl s shift zn zd) (per w : ℕ) (whole : per * w ≡ 16) (some : 1 ≤ w) (width : Width w) (size : s ≡ 4 * w) where
+module _ {file vl s shift zn zd : ℕ} (ready : NarrowReady file vl s shift zn zd) (per w : ℕ) (whole : per * w ≡ 16) (some : 1 ≤ w) (size : s ≡ 4 * w) where
   bytes_are : vl / 128 % 32 * (per * w) ≡ vl / 8
   bytes_are = let l = ready.lengths in rw whole (omega arith)
 
@@ -25,23 +24,6 @@ module _ {file vl s shift zn zd : ℕ} (ready : NarrowReady file vl s shift zn z
       let q : vl / 128 % 32 * per * (w * 8) ≡ vl / 128 % 32 * 16 * 8 = sym (mul_assoc (vl / 128 % 32 * per) w 8) ∙ ap (λ (m : ℕ). m * 8) p in
       let v : vl ≡ vl / 128 % 32 * per * (w * 8) = omega arith in
       sym (ap (λ (m : ℕ). vl / m) e ∙ div-eq_of_eq-mul_left (omega arith) v)
-
-  chunks_ready : ChunksReady file (vl / 128 % 32) per w shift zn zd
-  chunks_ready =
-      let m = ready.lengths.most in
-      record {
-        slots = ready.slots;
-        room = rw whole (omega arith);
-        chunk = rw whole (omega arith);
-        bytes = width;
-        low = ready.low;
-        high = rw size at ready.high;
-        from = ready.from;
-        to = ready.to;
-      }
-
-  pub length_ready : LengthReady file (vl / 128 % 32) per w shift zn zd
-  length_ready = record { chunks = chunks_ready; length = ready.length }
 
   pub chunks_are : is_result (4 * w) ≡ true
       → (op u r t : Bool) (z o : List ℕ)

@@ -1,19 +1,19 @@
 -- Signed elements as whole numbers: what is read and stored, the clamp, and the rounding. Once over the half s of an element's bits.
 use mathlib.Core.Path.{◌≡◌, refl, sym, ap, ◌∙◌}
-use mathlib.Core.Bool.{Bool, true, false, cond}
+use mathlib.Core.Bool.{Bool, true, false}
 use Prim.Native.Nat.{ℕ, suc, ◌+◌, ◌-◌, ◌*◌, ◌/◌, ◌%◌, ◌^◌, ◌≤◌, ◌<◌}
 use native.Mathlib.Nat.{mod-eq_of_lt, mod-lt, div-add-mod, mul-add-mod_self_left, div-lt_iff_lt-mul, mul-sub, mul-suc, mul-le-mul_left}
 use native.Mathlib.Omega.{arith}
 use lib.Pow.{pow_pos, pow-add, pow_mono}
 use lib.IntN.{ℤ, pos, negsuc, neg_ℤ, ◌+ℤ◌}
 use lib.Dec.{leb→le}
-use lib.Signed.{mag, shr_z, lt_z, ◌≤ℤ◌}
+use lib.Signed.{mag, shr_z, ◌≤ℤ◌}
 use mir.Syntax.{Width, w64}
 use mir.Val.{SFits, bits, hbits, to_z, of_z}
 use mir.ValLaws.{to_z-of_z, pow-bits, bits-suc}
 use Rattle.std.specs.Int.{int_min, int_max, int_shr}
 use Rattle.std.specs.Ordering.{int_cmp, ord_min, ord_max}
-use Rattle.std.proofs.Common.{Ordering, Less, Equal, Greater, is_lt}
+use Rattle.std.proofs.Common.{Ordering}
 use Rattle.std.proofs.lemmas.Int.{ints}
 use Rattle.narrowing.specs.Narrowing.{Saturating, signed_to_unsigned, signed_to_signed, unsigned_to_unsigned, form, signed_of, value, term, least, greatest, shifted, within, result, low, stored}
 use Rattle.narrowing.specs.Points.{narrowed}
@@ -58,17 +58,12 @@ low_is w s (negsuc n) e f =
 
 -- ---- the type's order is that of the numbers
 
-picked : {S : Type 0} (value : S → ℤ) (b c : Bool) (x y : S) → value (cond (is_lt (cond b Less (cond c Greater Equal))) x y) ≡ cond b (value x) (value y)
-picked value true c x y = refl
-picked value false true x y = refl
-picked value false false x y = refl
-
 module _ {S : Type 0} (value : S → ℤ) (cmp : S → S → Ordering) (order : (x y : S) → cmp x y ≡ int_cmp (value x) (value y)) where
   min_is : (x y : S) → value (ord_min cmp x y) ≡ int_min (value x) (value y)
-  min_is x y = rw (order y x) (picked value (lt_z (value y) (value x)) (lt_z (value x) (value y)) y x)
+  min_is x y = rw (order y x) (grind (arith, ints))
 
   max_is : (x y : S) → value (ord_max cmp x y) ≡ int_max (value x) (value y)
-  max_is x y = rw (order y x) (picked value (lt_z (value y) (value x)) (lt_z (value x) (value y)) x y)
+  max_is x y = rw (order y x) (grind (arith, ints))
 
   pub clamped_is : (x lo hi m y : S) {l h : ℤ} → m ≡ ord_min cmp x hi → y ≡ ord_max cmp m lo → value lo ≡ l → value hi ≡ h → value y ≡ int_max (int_min (value x) h) l
   clamped_is x lo hi m y em ey el eh = ap value ey ∙ max_is m lo ∙ rw (em, min_is x hi, el, eh)
@@ -77,9 +72,6 @@ clamp_is : (x lo hi : ℤ) → lo ≤ℤ hi → int_max (int_min x hi) lo ≡ wi
 clamp_is x lo hi o = grind (arith, ints)
 
 -- ---- rounded by halving in the end, or not rounded
-
-pub one_fits : (s : ℕ) → 3 ≤ s → 1 < 2 ^ (2 * s - 1)
-one_fits s some = let h : 1 ≤ 2 * s - 1 = omega arith in let p = pow_mono h in omega arith
 
 room : (s : ℕ) → 3 ≤ s → 2 ^ s * 4 ≤ 2 ^ (2 * s - 1)
 room s some =

@@ -1,16 +1,15 @@
 -- The unsigned classes as the code computes them, once over size and shift: what lies above `top`, and nothing else, rounds past the greatest
 -- result; the low half is halved of one bit more than is kept.
 use mathlib.Core.Path.{◌≡◌, refl, sym, ap, ◌∙◌}
-use mathlib.Core.Bool.{Bool, true, false, cond}
+use mathlib.Core.Bool.{Bool, true, false}
 use Prim.Native.Nat.{ℕ, ◌+◌, ◌-◌, ◌*◌, ◌/◌, ◌%◌, ◌^◌, ◌≤◌, ◌<◌, min}
 use native.Mathlib.Nat.{min-eq_left, min-eq_right, min-le_right, mod-eq_of_lt, mul_assoc, mul_comm, div-add-mod, mul-add-mod_self_left}
 use native.Mathlib.Decide.{dec_lt}
 use native.Mathlib.Omega.{arith}
-use lib.Dec.{eqb}
 use lib.Pow.{pow_pos, pow-add, pow_mono, shr_mono, ones_lt, ones_split, high}
 use mir.Val.{bool_byte}
 use Rattle.std.specs.Ordering.{nat_cmp, ord_min}
-use Rattle.std.proofs.Common.{Ordering, Less, Equal, Greater, is_lt, nat_lt}
+use Rattle.std.proofs.Common.{Ordering}
 use Rattle.std.proofs.lemmas.Bool.Decides.{nat_tests}
 use Rattle.narrowing.specs.Narrowing.{form, value, shifted, low as low_bits, stored}
 use Rattle.narrowing.specs.Points.{narrowed}
@@ -20,13 +19,8 @@ use Rattle.narrow.proofs.Computed.{one_shl}
 use Rattle.narrow.proofs.Clamp.{term_le, powers, bit, half_term}
 
 -- the type's order is that of the numbers
-picked : {S : Type 0} (value : S → ℕ) (b c : Bool) (x y : S) → value (cond (is_lt (cond b Less (cond c Equal Greater))) x y) ≡ cond b (value x) (value y)
-picked value true c x y = refl
-picked value false true x y = refl
-picked value false false x y = refl
-
 pub min_is : {S : Type 0} (value : S → ℕ) (cmp : S → S → Ordering) → ((x y : S) → cmp x y ≡ nat_cmp (value x) (value y)) → (x y m : S) → m ≡ ord_min cmp x y → value m ≡ min (value x) (value y)
-min_is value cmp order x y m e = ap value e ∙ rw (order y x) (picked value (nat_lt (value y) (value x)) (eqb (value y) (value x)) y x ∙ grind (arith, nat_tests))
+min_is value cmp order x y m e = ap value e ∙ rw (order y x) (grind (arith, nat_tests))
 
 module _ {x : ℕ} {r : Bool} {s k t h : ℕ} (p : UnsignedReady x r s k t h) where
   -- the bounds fit the element's bits, and their sum is all ones of s + k bits
@@ -97,10 +91,6 @@ module _ {x : ℕ} {r : Bool} {s k t h : ℕ} (p : UnsignedReady x r s k t h) wh
     saturated_is ey eq en = en ∙ eq ∙ ap (λ (n : ℕ). n / 2 ^ k) (ey ∙ lesser) ∙ cut
 
 -- ---- the low half
-
-pub byte_le : (r : Bool) → bool_byte r ≤ 1
-byte_le false = omega arith
-byte_le true = omega arith
 
 pub byte_bit : (r : Bool) → bool_byte r ≡ bit r
 byte_bit false = refl

@@ -38,10 +38,16 @@ pub record UnsignedBounds (r : Bool) (s shift top h : ℕ) : Type 0 where
   pub greatest : top ≡ top_of r s shift
   pub rounding : h ≡ term r shift
 
--- a word's bounds, computed, in its class
-abbrev pub Prepared : Bool → Bool → Bool → ℕ → ℕ → Bounds → Type 0
-Prepared op u r s shift (Signed lo hi) = (u ≡ false) × SignedBounds op r s shift lo hi
-Prepared op u r s shift (Unsigned top h) = (u ≡ true) × UnsignedBounds r s shift top h
+-- bounds, computed, in the word's class
+abbrev pub InClass : Bool → Bool → Bool → ℕ → ℕ → Bounds → Type 0
+InClass op u r s shift (Signed lo hi) = (u ≡ false) × SignedBounds op r s shift lo hi
+InClass op u r s shift (Unsigned top h) = (u ≡ true) × UnsignedBounds r s shift top h
+
+-- a word on elements of w bytes, and its bounds
+pub record Prepared (op u r : Bool) (w shift : ℕ) (a : Bounds) : Type 0 where
+  pub bytes : Width w
+  pub sized : Sized (4 * w) shift
+  pub bounds : InClass op u r (4 * w) shift a
 
 -- an element of 2s bits, in each class
 pub record LowReady (x s shift : ℕ) : Type 0 where
@@ -64,45 +70,7 @@ pub record UnsignedReady (x : ℕ) (r : Bool) (s shift top h : ℕ) : Type 0 whe
   pub sized : Sized s shift
   pub bounds : UnsignedBounds r s shift top h
 
--- an element of 2s bits of a word, with types of as many
-pub record ElementReady (x : ℕ) (op u r : Bool) (s unsigned shift : ℕ) (a : Bounds) : Type 0 where
-  pub same : unsigned ≡ s
-  pub fit : x < 2 ^ (2 * s)
-  pub sized : Sized s shift
-  pub bounds : Prepared op u r s shift a
-
--- an element of w bytes
-pub record OneReady (x w : ℕ) (op u r : Bool) (shift : ℕ) (a : Bounds) : Type 0 where
-  pub bytes : Width w
-  pub fit : x < 2 ^ (8 * w)
-  pub sized : Sized (4 * w) shift
-  pub bounds : Prepared op u r (4 * w) shift a
-
--- a result for an element of w bytes
-pub record PlaceReady (v w : ℕ) : Type 0 where
-  pub bytes : Width w
-  pub fit : v < 2 ^ (4 * w)
-
--- n elements of w bytes
-pub record EachReady (from to n w : ℕ) (op u r : Bool) (shift : ℕ) (a : Bounds) : Type 0 where
-  pub source : from ≡ n * w
-  pub target : to ≡ n * w
-  pub room : n * w ≤ 256
-  pub bytes : Width w
-  pub sized : Sized (4 * w) shift
-  pub bounds : Prepared op u r (4 * w) shift a
-
--- n chunks, `per` elements of w bytes in each
-pub record PartsReady (from to n per w : ℕ) (op u r : Bool) (shift : ℕ) (a : Bounds) : Type 0 where
-  pub source : from ≡ n * (per * w)
-  pub target : to ≡ n * (per * w)
-  pub room : n * (per * w) ≤ 256
-  pub chunk : per * w ≤ 256
-  pub bytes : Width w
-  pub sized : Sized (4 * w) shift
-  pub bounds : Prepared op u r (4 * w) shift a
-
--- so in the slots of a file
+-- n chunks in the slots of a file, `per` elements of w bytes in each
 pub record ChunksReady (file n per w shift zn zd : ℕ) : Type 0 where
   pub slots : file ≡ vector_file
   pub room : n * (per * w) ≤ 256
@@ -119,16 +87,6 @@ Middle n = (n ≡ 4) ⊎ (n ≡ 8)
 
 abbrev pub Chunks : ℕ → Type 0
 Chunks n = (n ≡ 1) ⊎ ((n ≡ 2) ⊎ ((n ≡ 16) ⊎ Middle n))
-
--- chunks in the slots of a file, where n is the number at a middle length
-pub record MiddleReady (file n per w shift zn zd : ℕ) : Type 0 where
-  pub chunks : ChunksReady file n per w shift zn zd
-  pub middle : Middle n
-
--- where n is the number at a vector length
-pub record LengthReady (file n per w shift zn zd : ℕ) : Type 0 where
-  pub chunks : ChunksReady file n per w shift zn zd
-  pub length : Chunks n
 
 -- element e of Zn's low m bytes, and of Zd's, narrowed
 abbrev pub element_of : ℕ → ℕ → Bool → Bool → Bool → Bool → ℕ → ℕ → ℕ → List ℕ → ℕ → ℕ

@@ -1,6 +1,6 @@
 // The bounds of a word's elements, computed once for the word: at s 8, 16 and 32 alike.
 ghost use Rattle.std.specs.Prelude.{◌≡◌, ◌*◌};
-ghost use Rattle.narrow.specs.Private.{Sized, Prepared};
+ghost use Rattle.narrow.specs.Private.{Sized, InClass};
 
 // A signed element lies from lo to hi. An unsigned one above top is cut; h is the rounding term.
 #[derive(Clone, Copy)]
@@ -15,7 +15,7 @@ pub(crate) fn bounds_of<const W: usize, const OP: bool, const U: bool>(
     shift: u32,
 ) -> Bounds
     requires { Sized (4 * W) shift }
-    ensures { Prepared OP U r (4 * W) shift result }
+    ensures { InClass OP U r (4 * W) shift result }
 {
     let s = 4 * W as u32;
     let h = u64::from(r) << (shift - 1);

@@ -1,11 +1,10 @@
-// The elements of a register, a chunk of them at a time. Each call has literals, so that the compiler makes a loop for each: the
-// width, the bits, and at VL 2048 the chunks, two of 128 bytes, for which it makes straight code. To 8 bits, at a shorter length, the
-// elements are one chunk: it would take chunks of 16 bytes together, which is slower by far (docs/DECISIONS.md).
-ghost use Rattle.std.specs.Prelude.{◌≡◌, ◌*◌, ◌/◌, length};
+// The elements of a register, a chunk of them at a time. Each call of `narrow_chunks` has literals, so that the compiler makes a loop for
+// each: the width and the bits, and at VL 2048 the chunks, two of 128 bytes, for which it makes straight code (docs/DECISIONS.md).
+ghost use Rattle.std.specs.Prelude.{◌≡◌, ◌*◌, ◌/◌, ◌≤◌, length};
 ghost use Rattle.element.specs.Contents.{elem, fill};
 ghost use Rattle.narrowing.specs.Narrowing.{form};
 ghost use Rattle.narrowing.specs.Registers.{element};
-ghost use Rattle.narrow.specs.Private.{EachReady, PartsReady, ChunksReady, chunks_of};
+ghost use Rattle.narrow.specs.Private.{Prepared, ChunksReady, chunks_of};
 
 use crate::bounds::Bounds;
 use crate::{bounds, one};
@@ -20,7 +19,10 @@ fn narrow_all<const W: usize, const OP: bool, const U: bool>(
     shift: u32,
     a: Bounds,
 )
-    requires { EachReady (length s.now) (length o.old) n W OP U r shift a }
+    requires source { length s.now ≡ n * W }
+    requires target { length o.old ≡ n * W }
+    requires room { n * W ≤ 256 }
+    requires word { Prepared OP U r W shift a }
     ensures { o.new ≡ fill (λ e. element (form OP U) r t (4 * W) shift (elem W e s.now) (elem W e o.old)) W n }
 {
     for i in 0..n {
@@ -45,7 +47,11 @@ fn narrow_parts<const W: usize, const OP: bool, const U: bool>(
     shift: u32,
     a: Bounds,
 )
-    requires { PartsReady (length s.now) (length o.old) n per W OP U r shift a }
+    requires source { length s.now ≡ n * (per * W) }
+    requires target { length o.old ≡ n * (per * W) }
+    requires room { n * (per * W) ≤ 256 }
+    requires chunk { per * W ≤ 256 }
+    requires word { Prepared OP U r W shift a }
     ensures { o.new ≡ fill (λ e. element (form OP U) r t (4 * W) shift (elem W e s.now) (elem W e o.old)) W (n * per) }
 {
     let c = per * W;
@@ -81,7 +87,8 @@ pub(crate) fn narrow_chunks<const W: usize, const OP: bool, const U: bool>(
     narrow_parts::<W, OP, U>(&s[..m], &mut z[to..end], n, per, r, t, shift, a);
 }
 
-// The n chunks of 16 bytes, cut as the compiler makes the fastest loops of them.
+// The n chunks of 16 bytes, in other chunks. To 8 bits, below VL 2048, the elements are one chunk: the compiler would take chunks of 16
+// bytes together, which is slower by far (docs/DECISIONS.md).
 #[inline(always)]
 pub(crate) fn narrow_cut<const W: usize, const OP: bool, const U: bool>(
     z: &mut [u8],

@@ -1,9 +1,10 @@
 // One element of a word: its class and its width, and where T puts the result.
-ghost use Rattle.std.specs.Prelude.{◌≡◌, ◌*◌};
+ghost use Rattle.std.specs.Prelude.{◌≡◌, ◌*◌, ◌^◌, ◌<◌};
 ghost use Rattle.narrowing.specs.Narrowing.{form};
 ghost use Rattle.narrowing.specs.Points.{narrowed};
 ghost use Rattle.narrowing.specs.Registers.{placed};
-ghost use Rattle.narrow.specs.Private.{ElementReady, OneReady, PlaceReady};
+ghost use Rattle.part.specs.Private.{Width};
+ghost use Rattle.narrow.specs.Private.{Sized, InClass, Prepared};
 
 use crate::bounds::Bounds;
 use crate::{signed, unsigned};
@@ -15,7 +16,10 @@ fn narrow_in<I: signed::Lane, N: unsigned::Lane, const OP: bool, const U: bool>(
     shift: u32,
     a: Bounds,
 ) -> u64
-    requires { ElementReady x OP U r I.half N.HALF shift a }
+    requires same { N.HALF ≡ I.half }
+    requires fit { x < 2 ^ (2 * I.half) }
+    requires sized { Sized I.half shift }
+    requires bounds { InClass OP U r I.half shift a }
     ensures { result ≡ narrowed (form OP U) r I.half shift x }
 {
     match a {
@@ -36,7 +40,8 @@ pub(crate) fn narrow_one<const W: usize, const OP: bool, const U: bool>(
     shift: u32,
     a: Bounds,
 ) -> u64
-    requires { OneReady x W OP U r shift a }
+    requires fit { x < 2 ^ (8 * W) }
+    requires word { Prepared OP U r W shift a }
     ensures { result ≡ narrowed (form OP U) r (4 * W) shift x }
 {
     if W == 2 {
@@ -49,8 +54,10 @@ pub(crate) fn narrow_one<const W: usize, const OP: bool, const U: bool>(
 }
 
 // The result v over the old element y of Zd.
+#[tactic(auto, using(crate::proofs::Places::m_is), unfolding(narrowing::specs::Registers::placed))]
 pub(crate) fn place<const W: usize>(y: u64, v: u64, t: bool) -> u64
-    requires { PlaceReady v W }
+    requires bytes { Width W }
+    requires fit { v < 2 ^ (4 * W) }
     ensures { result ≡ placed t (4 * W) v y }
 {
     if t {

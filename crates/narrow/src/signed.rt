@@ -151,6 +151,7 @@ impl Lane for i64 {
     ghost shifts = { λ x r k h. h };
 }
 
+#[tactic(auto, using(crate::proofs::Lanes::half_is, crate::proofs::Lanes::whole_is))]
 fn shifted<L: Lane>(y: L, r: bool, shift: u32) -> L
     requires { ShiftReady r L.half shift (L.value y) }
     ensures { L.value result ≡ shifted r shift (L.value y) }

@@ -6,7 +6,7 @@ ghost use Rattle.element.specs.Size.{is_result};
 ghost use Rattle.element.specs.Slots.{slot, set_slot};
 ghost use Rattle.narrowing.specs.Narrowing.{form};
 ghost use Rattle.narrowing.specs.Registers.{narrow_of};
-ghost use Rattle.narrow.specs.Private.{LengthReady, chunks_of, NarrowReady};
+ghost use Rattle.narrow.specs.Private.{Chunks, ChunksReady, chunks_of, NarrowReady};
 
 use crate::words;
 
@@ -22,7 +22,8 @@ fn narrow_sized<const W: usize>(
     zn: usize,
     zd: usize,
 )
-    requires { LengthReady (length z.old) n (16 / W) W shift zn zd }
+    requires chunks { ChunksReady (length z.old) n (16 / W) W shift zn zd }
+    requires length { Chunks n }
     ensures { z.new ≡ chunks_of n (16 / W) W op u r t shift zn zd z.old }
 {
     if op & u & !t {

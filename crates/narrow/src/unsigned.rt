@@ -130,6 +130,7 @@ pub(crate) fn saturated<L: Lane>(x: u64, r: bool, shift: u32, top: u64, h: u64) 
 }
 
 // The low half. Halved in the end, of the bits that are kept and one more, so that no sum passes the type.
+#[tactic(auto, using(crate::proofs::Rounding::low_is))]
 pub(crate) fn low<L: Lane>(x: u64, r: bool, shift: u32) -> u64
     requires { LowReady x L.HALF shift }
     ensures { result ≡ narrowed (form false true) r L.HALF shift x }

@@ -1,6 +1,7 @@
 // The sixteen words on elements of W bytes, by their class. Each call of the loops has literals (src/elements.rt says why).
+// A word's bits and fields stay parameters of their own: tried as structs, they went through memory, and UQSHRNB at VL 128 took 1.4 times as long.
 ghost use Rattle.std.specs.Prelude.{◌≡◌, true, false, length, ◌/◌};
-ghost use Rattle.narrow.specs.Private.{ChunksReady, LengthReady, MiddleReady, chunks_of};
+ghost use Rattle.narrow.specs.Private.{Middle, Chunks, ChunksReady, chunks_of};
 
 use crate::elements::{narrow_chunks, narrow_cut};
 
@@ -15,17 +16,18 @@ pub(crate) fn even_saturated<const W: usize>(
     zn: usize,
     zd: usize,
 )
-    requires { LengthReady (length z.old) n (16 / W) W shift zn zd }
+    requires chunks { ChunksReady (length z.old) n (16 / W) W shift zn zd }
+    requires length { Chunks n }
     ensures { z.new ≡ chunks_of n (16 / W) W true true r false shift zn zd z.old }
 {
-    if n == 1 {
-        return narrow_chunks::<W, true, true>(z, 1, 16 / W, r, false, shift, zn, zd);
+    if n == 16 {
+        return narrow_chunks::<W, true, true>(z, 2, 128 / W, r, false, shift, zn, zd);
     }
     if n == 2 {
         return narrow_chunks::<W, true, true>(z, 1, 32 / W, r, false, shift, zn, zd);
     }
-    if n == 16 {
-        return narrow_chunks::<W, true, true>(z, 2, 128 / W, r, false, shift, zn, zd);
+    if n == 1 {
+        return narrow_chunks::<W, true, true>(z, 1, 16 / W, r, false, shift, zn, zd);
     }
     middle::<W>(z, n, r, shift, zn, zd);
 }
@@ -33,7 +35,8 @@ pub(crate) fn even_saturated<const W: usize>(
 // The same at the middle lengths, VL 512 and 1024: in the run's loop they would slow down the words that do not narrow (docs/DECISIONS.md).
 #[inline(never)]
 fn middle<const W: usize>(z: &mut [u8], n: usize, r: bool, shift: u32, zn: usize, zd: usize)
-    requires { MiddleReady (length z.old) n (16 / W) W shift zn zd }
+    requires chunks { ChunksReady (length z.old) n (16 / W) W shift zn zd }
+    requires length { Middle n }
     ensures { z.new ≡ chunks_of n (16 / W) W true true r false shift zn zd z.old }
 {
     if n == 8 {

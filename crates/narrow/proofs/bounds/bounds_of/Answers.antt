@@ -1,7 +1,7 @@
 -- `bounds_of` meets its contract: the bounds of the class, by the laws of Computed.
 use native.Mathlib.Omega.{arith}
 use Rattle.narrow.proofs.Flags.{flag_set, flag_clear}
-use Rattle.narrow.proofs.Computed.{numbers, term_lt, twice_fits, top_is, signed_are, unsigned_are}
+use Rattle.narrow.proofs.Computed.{numbers, term_lt, top_is, signed_are, unsigned_are}
 use Rattle.narrow.proofs.bounds.bounds_of.Goals as goal
 
 pub overflow_sub-result-then-this-ne0 : goal.overflow_sub-result-then-this-ne0
@@ -9,9 +9,6 @@ overflow_sub-result-then-this-ne0 g c = let l = term_lt (numbers c.requires c.fr
 
 pub returns-then-this-ne0 : goal.returns-then-this-ne0
 returns-then-this-ne0 g c = (flag_set g.row.U c.if-this-ne0.true, top_is (numbers c.requires c.from.ensures))
-
-pub overflow_add-p-then-this-ne0-2 : goal.overflow_add-p-then-this-ne0-2
-overflow_add-p-then-this-ne0-2 g c = let n = numbers c.requires c.from.ensures in let l = term_lt n in let m = twice_fits n in record { fits = omega arith }
 
 pub overflow_sub-result-then-this-ne0-2-2 : goal.overflow_sub-result-then-this-ne0-2-2
 overflow_sub-result-then-this-ne0-2-2 g c = let l = term_lt (numbers c.requires c.from.ensures) in omega arith

@@ -14,8 +14,8 @@ pub loop-i-init : goal.loop-i-init
 unfolding fill
 loop-i-init g c = (refl, simp zero-mul)
 
-pub place-v-requires : goal.place-v-requires
-place-v-requires g c = record { bytes = c.requires.bytes; fit = rw c.narrow_one-q.ensures (stored_lt _ _ _ _ _) }
+pub place-v-requires-clause-fit : goal.place-v-requires-clause-fit
+place-v-requires-clause-fit g c = rw c.narrow_one-q.ensures (stored_lt _ _ _ _ _)
 
 pub loop-i-preserved : goal.loop-i-preserved
 loop-i-preserved g c =
@@ -24,10 +24,10 @@ loop-i-preserved g c =
     let l = c.loop-i in
     let t = c.loop-i-test.true in
     let f = elements_in a.s.now a.o.now g.row.W (flag g.row.OP) (flag g.row.U) a.r a.t a.shift in
-    let x = element_read l.i a.n g.row.W a.s.now t q.source q.bytes c.read-x.ensures in
-    let y = element_read l.i a.n g.row.W l.o t (l.invariant.0 ∙ q.target) q.bytes c.read-y.ensures in (
+    let x = element_read l.i a.n g.row.W a.s.now t q.source q.word.bytes c.read-x.ensures in
+    let y = element_read l.i a.n g.row.W l.o t (l.invariant.0 ∙ q.target) q.word.bytes c.read-y.ensures in (
       same_len_mid _ _ _ _ c.write.auto.o ∙ l.invariant.0,
       again f g.row.W l.i a.n a.o.now l.o _ c.place-v.result t (l.invariant.0 ∙ q.target) l.invariant.1
           (made _ _ _ _ _ c.place-v.ensures c.narrow_one-q.ensures x (y ∙ old f g.row.W l.i a.o.now l.o l.invariant.1))
-          (element_stored l.i a.n g.row.W l.o t (l.invariant.0 ∙ q.target) q.bytes _ c.write.ensures),
+          (element_stored l.i a.n g.row.W l.o t (l.invariant.0 ∙ q.target) q.word.bytes _ c.write.ensures),
     )
