@@ -32,14 +32,12 @@ fn masked(s: &[u8], m: u8, o: &mut [u8])
     requires { length s.now ≡ length o.old }
     ensures { o.new ≡ fill (λ k. bit_and (get_or s.now k 0) m) 1 (length o.old) }
 {
-    let mut k: usize = 0;
-    while k < o.len() {
+    for k in 0..o.len() {
         o[k] = s[k] & m;
-        k += 1;
     }
 }
 
-// The pattern that keeps every bit of a byte, or none.
+// The pattern that keeps every bit of a byte, or none. (Of a product with `u8::from(v)` LLVM makes a copy or a fill by a call.)
 fn kept(v: bool) -> u8
     ensures { result ≡ pick v 255 0 }
 {

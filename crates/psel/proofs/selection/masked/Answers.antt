@@ -2,26 +2,17 @@
 use Rattle.std.proofs.Common.{ℕ, refl, arith, get_or}
 use lib.Bits.{bit_and, and_le_l}
 use Rattle.element.specs.Contents.{fill}
-use Rattle.element.proofs.Filling.{store, stored}
+use Rattle.element.proofs.Filling.{store}
 use Rattle.psel.proofs.selection.masked.Goals as goal
 
 pub loop-k-init : goal.loop-k-init
 unfolding fill
-loop-k-init c = (omega arith, refl)
+loop-k-init c = refl
 
 pub loop-k-preserved : goal.loop-k-preserved
 loop-k-preserved c =
     let a = c.args in
     let l = c.loop-k in
     let x = get_or a.s.now l.k 0 in
-    let i = l.invariant in
-    let h = and_le_l x a.m in (
-      omega arith,
-      store (λ (j : ℕ). bit_and (get_or a.s.now j 0) a.m) l.k a.o.now l.o (bit_and x a.m) (omega arith) i.1 refl (omega (arith, h, c.type_inv.s l.k)),
-    )
-
-pub returns : goal.returns
-returns c =
-    let a = c.args in
-    let l = c.loop-k in
-    stored (λ (j : ℕ). bit_and (get_or a.s.now j 0) a.m) l.k _ a.o.now l.o l.invariant.0 (omega arith) refl l.invariant.1
+    let h = and_le_l x a.m in
+    store (λ (j : ℕ). bit_and (get_or a.s.now j 0) a.m) l.k a.o.now l.o (bit_and x a.m) (omega arith) l.invariant refl (omega (arith, h, c.type_inv.s l.k))

@@ -1,11 +1,8 @@
 -- `masked`'s loop: the bytes before k are Pn's under the pattern, the others as they were.
-use Rattle.std.proofs.Common.{◌≡◌, ◌≤◌, ◌-◌, ◌++◌, length, drop, get_or}
+use Rattle.std.proofs.Common.{◌≡◌, ◌++◌, drop, get_or}
 use Rattle.std.specs.Int.Bits.{bit_and}
 use Rattle.element.specs.Contents.{fill}
 use Rattle.psel.proofs.selection.masked.Given as goal
 
 abbrev pub invariant-loop-k : goal.invariant-loop-k
-invariant-loop-k l = (l.k ≤ length l.fn.o) × (l.o ≡ fill (λ j. bit_and (get_or l.s j 0) l.m) 1 l.k ++ drop l.k l.fn.o)
-
-abbrev pub decreases-loop-k : goal.decreases-loop-k
-decreases-loop-k l = length l.o - l.k
+invariant-loop-k l = l.o ≡ fill (λ j. bit_and (get_or l.s j 0) l.m) 1 l.k ++ drop l.k l.fn.o
