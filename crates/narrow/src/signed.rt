@@ -13,7 +13,8 @@ ghost use Rattle.narrow.specs.Private.{SignedReady, ShiftReady};
 
 use std::ops::{Add, Shr};
 
-// The type of an element of twice `half` bits. Its order and its operators are those of the whole numbers, where the answer fits.
+// The type of an element of twice `half` bits. Its order and its operators are those of the whole numbers, where the answer fits. (An impl
+// for each type stays, since no macro of this repository may write one; and `unsigned::Lane` has the laws of the natural numbers.)
 pub(crate) trait Lane: Copy + Drop + Ord + Add<Self, Output = Self> + Shr<u32, Output = Self> {
     ghost width: { Width };
 
