@@ -77,6 +77,7 @@ fn slot_of(z: &[u8], k: usize) -> [u8; 256]
 }
 
 // Zn is copied first, so that it may be a destination. Each width has its own instance, in which LLVM has its literals.
+#[inline(never)]
 fn four_destinations<const W: usize>(
     z: &mut [u8],
     zt: &[u8],

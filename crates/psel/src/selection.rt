@@ -7,6 +7,8 @@ ghost use Rattle.element.specs.Contents.{fill, packed, bit};
 ghost use Rattle.psel.specs.Psel.{value_of};
 ghost use Rattle.psel.specs.Private.{ElementReady};
 
+use std::hint::select_unpredictable;
+
 // Bit i of a predicate.
 fn test(s: &[u8], i: usize) -> bool
     requires { i < 8 * length s.now }
@@ -37,11 +39,12 @@ fn masked(s: &[u8], m: u8, o: &mut [u8])
     }
 }
 
-// The pattern that keeps every bit of a byte, or none. (Of a product with `u8::from(v)` LLVM makes a copy or a fill by a call.)
+// The pattern that keeps every bit of a byte, or none: chosen by no branch, which a value in no order would not let foresee. (Of a
+// product with `u8::from(v)` LLVM makes a copy or a fill by a call.)
 fn kept(v: bool) -> u8
     ensures { result ≡ pick v 255 0 }
 {
-    if v { 255 } else { 0 }
+    select_unpredictable(v, 255, 0)
 }
 
 // All of Pn, if the value is true, else zeros; no branch, so that no value is to be foreseen.
