@@ -1,18 +1,20 @@
 -- PEXT's portions in the file: one more slot set, and the file where the tests have answered; the counter is in a slot's low bytes.
 use mathlib.Core.Path.{◌≡◌, sym, ap, ◌∙◌}
-use mathlib.Core.Bool.{Bool}
+use mathlib.Core.Bool.{false}
 use mathlib.Core.List.{List}
 use Prim.Native.Nat.{ℕ, ◌+◌, ◌*◌, ◌/◌, ◌%◌, ◌≤◌}
 use native.Mathlib.Numerals.{add-one}
 use native.Mathlib.Omega.{arith}
 use lib.ListN.{length, drop}
 use lib.Seq.{take-take}
-use Rattle.logic.specs.Pick.{pick}
 use Rattle.element.specs.Contents.{num, elem}
 use Rattle.element.specs.Slots.{slot, set_slot}
 use Rattle.element.proofs.Filling.{packed_length}
 use Rattle.element.proofs.Slots.{reach, slot_part}
 use Rattle.counter.specs.Portion.{portion_bit, portion_of}
+use Rattle.element.specs.Units.{size_at}
+use Rattle.pext.specs.Private.{Accepted}
+use Rattle.pext.specs.declared.operands.Operands.{Operands}
 use Rattle.pext.specs.Pext.{pext_of, pext_slots, pext_ready, pext_leaves}
 
 pub portion_length : (vl size p c : ℕ) → length (portion_of vl size p c) ≡ vl / 64
@@ -34,11 +36,17 @@ counter_low n k f h l =
     let rest = drop (32 * k) f in
     rw (← slot_part 32 2 k f (omega arith), ← slot_part 32 n k f l, reach (32 * k) 2, reach (32 * k) n) (ap num (take-take 2 2 rest (omega arith) ∙ sym (take-take 2 n rest h)))
 
--- the answer and the file where the tests say b
-pub leaves : (vl size first portions pn pd : ℕ) (f q : List ℕ) (b : Bool)
-    → pext_ready (length f) vl size first portions pn pd ≡ b
-    → q ≡ pick b (pext_slots vl size first pd (slot 32 (vl / 64) pn f) portions f) f
-    → (b ≡ pext_ready (length f) vl size first portions pn pd) × (q ≡ pext_leaves vl size first portions pn pd f)
+-- the file as it is left, by any name of the operands
+pub worked : (vl log first portions pn pd : ℕ) (o : Operands) (f q : List ℕ)
+    → Accepted o (length f) vl log first portions pn pd
+    → q ≡ pext_slots vl (size_at o.log) o.first o.pd (slot 32 (vl / 64) o.pn f) o.portions f
+    → q ≡ pext_leaves vl (size_at log) first portions pn pd f
 unfolding pext_leaves
-leaves vl size first portions pn pd f q b e h =
-    (sym e, h ∙ ap (λ (x : Bool). pick x (pext_slots vl size first pd (slot 32 (vl / 64) pn f) portions f) f) (sym e))
+worked vl log first portions pn pd o f q k h =
+    rw k.ready (rw (k.log_is, k.first_is, k.portions_is, k.pn_is, k.pd_is) at h)
+
+pub untouched : (vl size first portions pn pd : ℕ) (f : List ℕ)
+    → pext_ready (length f) vl size first portions pn pd ≡ false
+    → f ≡ pext_leaves vl size first portions pn pd f
+unfolding pext_leaves
+untouched vl size first portions pn pd f refused = rw refused
