@@ -6,7 +6,8 @@ ghost use Rattle.encoding.specs.Rows.{rows};
 use encoding::Instruction;
 use setting::Refusal;
 
-// What the row at a place of the table, from 0, reads a word as, whether it matches or not; 3 past the table's end.
+// What the row at a place of the table, from 0, reads a word as, whether it matches or not; 3 past the table's end. (Why a place
+// is a number: crates/encoding/src/table.rt.)
 pub(crate) fn read(place: usize, word: u32) -> Result<Instruction, Refusal>
     ensures { decoded_as result ≡ read_at rows place word }
 {

@@ -87,7 +87,8 @@ fn before_any(setting: Setting, z: usize, p: usize, zt: usize, words: usize) -> 
     Ok(())
 }
 
-// One word of a run, where the setting is allowed and each file has its length. The files stay three parameters, here and below: a
+// One word of a run, where the setting is allowed and each file has its length. A `match` and no table of closures, which would be handed
+// out, since the rows' arms take different files; a place is a number (crates/encoding/src/table.rt says why). The files stay three parameters, here and below: a
 // word is lent one of them alone, and `run` and `step`, which README.md names, are lent them so.
 fn step_in_run(
     z: &mut [u8],

@@ -20,7 +20,8 @@ fn list<W: Write>(writer: &mut W, input: &[u8], text: &mut [u8]) -> io::Result<(
 }
 
 // Each turn reads once behind the bytes kept, lists the whole records, and keeps the bytes behind them; at the end of the input
-// those are listed. A proved loop has to end: no input takes so many turns.
+// those are listed. A proved loop has to end: no input takes so many turns. (The buffer and how much of it is kept are no struct with
+// that bound: the borrow checker has no rule for lending a part of the one beside the other.)
 fn list_all<R: Read, W: Write>(reader: &mut R, writer: &mut W) -> io::Result<()> {
     let mut input = [0; INPUT];
     let mut text = [0; TEXT];

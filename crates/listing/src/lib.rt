@@ -109,7 +109,7 @@ fn wide_line(quad: [u8; 4], out: &mut [u8]) -> usize
     8 + tail(name_index(word), &mut out[8..19])
 }
 
-// The same, and nothing behind it: the rest of out stays.
+// The same, and nothing behind it: the rest of out stays. (An array of the longest line and a slice of it, here as elsewhere: no heap.)
 fn line(quad: [u8; 4], out: &mut [u8]) -> usize
     requires { length out.old ≡ 19 }
     ensures { Wrote (quad_line quad) out.old out.new result }

@@ -62,7 +62,8 @@ fn narrow_parts<const W: usize, const OP: bool, const U: bool>(
     }
 }
 
-// The low n chunks of Zn into Zd. Zn may be Zd: its bytes are copied first, and then Zd's slot is lent once, of which the chunks are parts.
+// The low n chunks of Zn into Zd. Zn may be Zd: its bytes are copied first (a slice of an array: no heap), and then Zd's slot is
+// lent once, of which the chunks are parts.
 pub(crate) fn narrow_chunks<const W: usize, const OP: bool, const U: bool>(
     z: &mut [u8],
     n: usize,

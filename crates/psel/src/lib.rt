@@ -47,7 +47,7 @@ fn accepted(
     }
 }
 
-// Pm's element is read, and Pn's slot is copied, before Pd is lent. (The length is no const parameter: the calls have its literals either way.)
+// Pm's element is read, and Pn's slot is copied (a slice of an array: no heap), before Pd is lent. (The length is no const parameter: the calls have its literals either way.)
 fn select(p: &mut [u8], vl: u32, o: Operands)
     requires { (length p.old ≡ predicate_file) × (length_allowed vl ≡ true) }
     ensures { p.new ≡ set_slot 32 (vl / 64) o.pd (psel_of vl (size_at o.log) (o.w + o.offset) (slot 32 (vl / 64) o.pn p.old) (slot 32 (vl / 64) o.pm p.old)) p.old }

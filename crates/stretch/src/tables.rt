@@ -15,7 +15,8 @@ pub(crate) struct Entry {
     place: usize,
 }
 
-// The words as entries. None is placed: each has the number of words for its place, as one that an order does not list.
+// The words as entries. None is placed: each has the number of words for its place, as one that an order does not list (no Option: the
+// definition `place`, crates/order, has the list's length).
 pub(crate) fn unplaced(setting: Setting, words: &[u32]) -> Result<[Entry; 256], Refusal>
     requires allowed { allowed_of setting ≡ true }
     requires few { length words.now ≤ 256 }
