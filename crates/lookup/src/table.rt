@@ -1,5 +1,5 @@
 // LUTI4 on a lent vector file: the lookups, two elements for each byte of indexes.
-ghost use Rattle.std.specs.Prelude.{◌≡◌, ◌+◌, ◌*◌, ◌/◌, ◌^◌, ◌≤◌, ◌<◌, length};
+ghost use Rattle.std.specs.Prelude.{◌≡◌, ◌+◌, ◌*◌, ◌^◌, ◌≤◌, ◌<◌, length};
 ghost use Rattle.element.specs.Contents.{elem, field, fill};
 ghost use Rattle.element.specs.Slots.{slot};
 ghost use Rattle.element.specs.Files.{vector_file, table_file};
