@@ -1,7 +1,7 @@
 // A predicate-as-counter, its mask, and PEXT's portion of it. Only expansion leads from one to the other.
 #![tactic(auto)]
 
-ghost use Rattle.std.specs.Prelude.{◌≡◌, not, ◌+◌, ◌-◌, ◌*◌, ◌%◌, ◌^◌, ◌<◌, max, ltb, length, get_or};
+ghost use Rattle.std.specs.Prelude.{◌≡◌, not, ◌*◌, ◌%◌, ◌^◌, ◌<◌, ltb, length};
 ghost use Rattle.logic.specs.Pick.{pick};
 ghost use Rattle.element.specs.Size.{zeros};
 ghost use Rattle.element.specs.Units.{size_at};

@@ -3,4 +3,4 @@ pub mod Lookups
 pub mod Chunks
 pub mod Places
 pub mod Files
-pub mod Accepted
+pub mod Ready

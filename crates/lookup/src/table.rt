@@ -1,9 +1,12 @@
 // LUTI4 on a lent vector file: the lookups, two elements for each byte of indexes.
-ghost use Rattle.std.specs.Prelude.{◌≡◌, ◌+◌, ◌*◌, ◌/◌, ◌^◌, ◌≤◌, ◌<◌, length};
+ghost use Rattle.std.specs.Prelude.{◌≡◌, ◌+◌, ◌*◌, ◌^◌, ◌≤◌, ◌<◌, length};
 ghost use Rattle.element.specs.Contents.{elem, field, fill};
 ghost use Rattle.element.specs.Slots.{slot};
+ghost use Rattle.element.specs.Files.{vector_file, table_file};
 ghost use Rattle.lookup.specs.Lookup.{index_bits, destinations, segment_of, luti_file};
-ghost use Rattle.lookup.specs.Private.{ElementBytes, EntryReady, Raised, TableReady, PairsReady, Chunked, LutiReady};
+ghost use Rattle.lookup.specs.Private.{ElementBytes, EntryReady, Raised, TableReady, PairsReady, Chunked, SegmentReady};
+
+use crate::operands::Operands;
 
 // The entry of ZT0 at a place.
 fn entry(zt: &[u8], i: usize) -> u64
@@ -76,48 +79,32 @@ fn slot_of(z: &[u8], k: usize) -> [u8; 256]
     s
 }
 
-// Zn is copied first, so that it may be a destination. Each width has its own instance, in which LLVM has its literals.
+// Zn is copied first, so that it may be a destination. Each width has its own instance, in which LLVM has its literals; out of the
+// run's loop, where it would slow down the other words.
 #[inline(never)]
-fn four_destinations<const W: usize>(
-    z: &mut [u8],
-    zt: &[u8],
-    vl: usize,
-    segment: usize,
-    zn: usize,
-    first: usize,
-    stride: usize,
-)
-    requires { LutiReady (length z.old) (length zt.now) vl index_bits (8 * W) destinations segment zn first stride }
-    ensures { z.new ≡ luti_file index_bits (8 * W) vl destinations segment zn first stride zt.now z.old destinations }
+fn four_destinations<const W: usize>(z: &mut [u8], zt: &[u8], o: Operands, segment: usize)
+    requires { SegmentReady (length z.old) (length zt.now) W segment }
+    ensures { z.new ≡ luti_file index_bits (8 * W) o.vl destinations segment o.zn o.first o.stride zt.now z.old destinations }
 {
-    let n = vl / 8;
-    let each = vl / (16 * W);
-    let s = slot_of(z, zn);
+    let n = o.vl / 8;
+    let each = o.vl / (16 * W);
+    let s = slot_of(z, o.zn);
     let high = raised::<W>(zt);
     for r in 0..4 {
         let from = (4 * segment + r) * each;
-        let d = 256 * (first + stride * r);
+        let d = 256 * (o.first + o.stride * r);
         look::<W>(&s[from..from + each], zt, &high, &mut z[d..d + n]);
     }
 }
 
 // Each size with its segment, of which 16 bits have one.
-pub(crate) fn luti4_file(
-    z: &mut [u8],
-    zt: &[u8],
-    vl: usize,
-    size: usize,
-    i1: usize,
-    zn: usize,
-    first: usize,
-    stride: usize,
-)
-    requires { LutiReady (length z.old) (length zt.now) vl index_bits size destinations (segment_of index_bits size destinations i1) zn first stride × (i1 < 2) }
-    ensures { z.new ≡ luti_file index_bits size vl destinations (segment_of index_bits size destinations i1) zn first stride zt.now z.old destinations }
+pub(crate) fn luti4_file(z: &mut [u8], zt: &[u8], o: Operands)
+    requires { (length z.old ≡ vector_file) × (length zt.now ≡ table_file) }
+    ensures { z.new ≡ luti_file index_bits o.size o.vl destinations (segment_of index_bits o.size destinations o.i1) o.zn o.first o.stride zt.now z.old destinations }
 {
-    if size == 16 {
-        four_destinations::<2>(z, zt, vl, 0, zn, first, stride);
+    if o.size == 16 {
+        four_destinations::<2>(z, zt, o, 0);
         return;
     }
-    four_destinations::<4>(z, zt, vl, i1, zn, first, stride);
+    four_destinations::<4>(z, zt, o, o.i1);
 }

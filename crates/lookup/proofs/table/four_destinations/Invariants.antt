@@ -4,4 +4,4 @@ use Rattle.lookup.specs.Lookup.{index_bits, destinations, luti_file}
 use Rattle.lookup.proofs.table.four_destinations.Given as goal
 
 abbrev pub invariant-loop-r : goal.invariant-loop-r
-invariant-loop-r g l = l.z ≡ luti_file index_bits (8 * g.row.W) l.vl destinations l.segment l.zn l.first l.stride l.zt l.fn.z l.r
+invariant-loop-r g l = l.z ≡ luti_file index_bits (8 * g.row.W) l.o.vl destinations l.segment l.o.zn l.o.first l.o.stride l.zt l.fn.z l.r
