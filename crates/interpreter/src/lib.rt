@@ -16,23 +16,6 @@ ghost use Rattle.machine.specs.Private.{Checked, stepped_by, went_as};
 use machine::{Ran, Scalars, Stepped};
 use setting::{Answer, Refusal, Setting};
 
-// The same scalars, each taken by itself (for speed, not `scalars` as it is): where a caller steps again and again, PC is then read
-// as the step before stored it, and not together with its neighbours, for which the processor would wait.
-fn one_by_one(scalars: Scalars) -> Scalars
-    ensures { result ≡ scalars }
-{
-    Scalars {
-        w12: scalars.w12,
-        w13: scalars.w13,
-        w14: scalars.w14,
-        w15: scalars.w15,
-        pc: scalars.pc,
-        v: scalars.v,
-        s: scalars.s,
-        t: scalars.t,
-    }
-}
-
 fn advance(scalars: Scalars) -> Scalars
     ensures { result ≡ advanced scalars }
 {
@@ -190,10 +173,9 @@ pub fn step(
     ensures { stepped_as result z.new p.new zt.new ≡ step_of setting word (machine z.old p.old zt.old scalars) }
 {
     let words = [word];
-    let held = one_by_one(scalars);
-    let progress = went(z, p, zt, held, setting, &words);
+    let progress = went(z, p, zt, scalars, setting, &words);
     Stepped {
         answer: progress.answer,
-        scalars: progress.moved_on(held),
+        scalars: progress.moved_on(scalars),
     }
 }

@@ -3,4 +3,4 @@ use Rattle.machine.proofs.OneWord.{step_of_run}
 use Rattle.interpreter.proofs.step.Goals as goal
 
 pub returns : goal.returns
-returns c = rw (c.moved_on.ensures, ← c.one_by_one-held.ensures) (step_of_run _ _ _ _ _ _ _ _ _ c.went-progress.ensures)
+returns c = rw c.moved_on.ensures (step_of_run _ _ _ _ _ _ _ _ _ c.went-progress.ensures)
