@@ -33,7 +33,7 @@ low_bytes n k f h l =
     let t : take n (drop (256 * k) f) ≡ slot 256 n k f = rw (reach (256 * k) n) at (slot_part 256 n k f (omega arith)) in
     ap (take n) (sym s) ∙ take-take n 256 (drop (256 * k) f) h ∙ t
 
-module _ {file table vl s d segment zn first stride each : ℕ} (op : LutiReady file table vl index_bits s d segment zn first stride) (is : each ≡ vl / s * index_bits / 8) where
+module _ {file vl s d segment zn first stride each : ℕ} (op : LutiReady file vl index_bits s d segment zn first stride) (is : each ≡ vl / s * index_bits / 8) where
   elements : each * 2 ≡ vl / s
   elements = rw is (each_is vl op.lengths.even op.result)
 

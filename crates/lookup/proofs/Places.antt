@@ -72,7 +72,7 @@ pub record Turn (vl d segment first stride each r : ℕ) : Type 0 where
   pub register : first + stride * r < 32
   pub inside : (d * segment + r) * each + each ≤ vl / 8
 
-module _ {file table vl k s d segment zn first stride : ℕ} (op : LutiReady file table vl k s d segment zn first stride) (r : ℕ) (l : r < d) where
+module _ {file vl k s d segment zn first stride : ℕ} (op : LutiReady file vl k s d segment zn first stride) (r : ℕ) (l : r < d) where
   number : d * segment + r < 32
   number =
       let m : d * suc segment ≡ d * segment + d = mul-suc d segment in

@@ -49,11 +49,10 @@ tested z zt vl size i1 zn first stride ready =
       to = ltb-true (first + 3 * stride) 32 d.1;
     }
 
-pub luti_ready : {file table w segment : ℕ} (o : Operands) → SegmentReady file table w segment → LutiReady file table o.vl index_bits (8 * w) destinations segment o.zn o.first o.stride
+pub luti_ready : {file w segment : ℕ} (o : Operands) → SegmentReady file w segment → LutiReady file o.vl index_bits (8 * w) destinations segment o.zn o.first o.stride
 luti_ready o s =
     record {
       slots = s.slots;
-      entries = s.entries;
       allowed = o.allowed;
       lengths = lengths_of o.vl o.allowed;
       kind = inr refl;

@@ -1,5 +1,5 @@
 -- Document 01, "LUTI4": what the private functions ask of their callers.
-use Rattle.std.specs.Prelude.{◌≡◌, ◌⊎◌, List, true, ℕ, suc, ◌*◌, ◌+◌, ◌/◌, ◌%◌, ◌^◌, ◌≤◌, ◌<◌, length, get_or}
+use Rattle.std.specs.Prelude.{◌≡◌, ◌⊎◌, List, true, ℕ, suc, ◌*◌, ◌+◌, ◌/◌, ◌%◌, ◌^◌, ◌≤◌, ◌<◌, get_or}
 use Rattle.setting.specs.Allowed.{length_allowed}
 use Rattle.element.specs.Contents.{elem}
 use Rattle.element.specs.Files.{vector_file, table_file}
@@ -19,22 +19,12 @@ ElementBytes w = (w ≡ 2) ⊎ (w ≡ 4)
 abbrev pub Result : ℕ → Type 0
 Result s = (s ≡ 16) ⊎ (s ≡ 32)
 
--- one entry of the table
-pub record EntryReady (table i : ℕ) : Type 0 where
-  pub entries : table ≡ table_file
-  pub inside : i < 16
-
 -- the table's entries, each cut to below m and raised by it
 abbrev pub Raised : ℕ → List ℕ → List ℕ → Type 0
 Raised m table high = (i : ℕ) → i < 16 → get_or high i 0 ≡ elem 4 i table % m * m
 
-pub record TableReady (table w : ℕ) : Type 0 where
-  pub entries : table ≡ table_file
-  pub bytes : ElementBytes w
-
 -- two elements of w bytes for each byte of indexes
 pub record PairsReady (source room w : ℕ) (table high : List ℕ) : Type 0 where
-  pub entries : length table ≡ table_file
   pub raised : Raised (256 ^ w) table high
   pub bytes : ElementBytes w
   pub whole : room ≡ source * (2 * w)
@@ -56,16 +46,14 @@ pub record Accepted (o : Operands) (z zt vl size i1 zn first stride : ℕ) : Typ
   pub stride_is : o.stride ≡ stride
 
 -- a segment of Zn for elements of w bytes
-pub record SegmentReady (file table w segment : ℕ) : Type 0 where
+pub record SegmentReady (file w segment : ℕ) : Type 0 where
   pub slots : file ≡ vector_file
-  pub entries : table ≡ table_file
   pub bytes : ElementBytes w
   pub inside : destinations * suc segment * index_bits ≤ 8 * w
 
 -- d destinations of indexes of k bits; the segment lies in Zn
-pub record LutiReady (file table vl k s d segment zn first stride : ℕ) : Type 0 where
+pub record LutiReady (file vl k s d segment zn first stride : ℕ) : Type 0 where
   pub slots : file ≡ vector_file
-  pub entries : table ≡ table_file
   pub allowed : length_allowed vl ≡ true
   pub lengths : Lengths vl
   pub kind : Kind k

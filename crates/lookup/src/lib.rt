@@ -70,7 +70,7 @@ pub fn luti4(
     let Some(o) = accepted(z.len(), zt.len(), vl, size, i1, zn, first, stride) else {
         return false;
     };
-    table::luti4_file(z, zt, o);
+    table::luti4_file(z, zt.as_array().unwrap(), o);
     true
 }
 

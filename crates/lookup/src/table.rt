@@ -2,15 +2,15 @@
 ghost use Rattle.std.specs.Prelude.{◌≡◌, ◌+◌, ◌*◌, ◌^◌, ◌≤◌, ◌<◌, length};
 ghost use Rattle.element.specs.Contents.{elem, field, fill};
 ghost use Rattle.element.specs.Slots.{slot};
-ghost use Rattle.element.specs.Files.{vector_file, table_file};
+ghost use Rattle.element.specs.Files.{vector_file};
 ghost use Rattle.lookup.specs.Lookup.{index_bits, destinations, segment_of, luti_file};
-ghost use Rattle.lookup.specs.Private.{ElementBytes, EntryReady, Raised, TableReady, PairsReady, Chunked, SegmentReady};
+ghost use Rattle.lookup.specs.Private.{ElementBytes, Raised, PairsReady, Chunked, SegmentReady};
 
 use crate::operands::Operands;
 
 // The entry of ZT0 at a place.
-fn entry(zt: &[u8], i: usize) -> u64
-    requires { EntryReady (length zt.now) i }
+fn entry(zt: &[u8; 64], i: usize) -> u64
+    requires { i < 16 }
     ensures { (result ≡ elem 4 i zt.now) × (result < 4294967296) }
 {
     let a = i * 4;
@@ -26,8 +26,8 @@ fn power<const W: usize>() -> u64
 }
 
 // The low bytes of each entry, raised past as many.
-fn raised<const W: usize>(zt: &[u8]) -> [u64; 16]
-    requires { TableReady (length zt.now) W }
+fn raised<const W: usize>(zt: &[u8; 64]) -> [u64; 16]
+    requires { ElementBytes W }
     ensures { Raised (256 ^ W) zt.now result }
 {
     let m = power::<W>();
@@ -39,7 +39,7 @@ fn raised<const W: usize>(zt: &[u8]) -> [u64; 16]
 }
 
 // Two elements for each byte of indexes, both written at once.
-fn pairs<const W: usize>(s: &[u8], zt: &[u8], high: &[u64; 16], o: &mut [u8])
+fn pairs<const W: usize>(s: &[u8], zt: &[u8; 64], high: &[u64; 16], o: &mut [u8])
     requires { PairsReady (length s.now) (length o.old) W zt.now high.now }
     ensures { o.new ≡ fill (λ e. elem 4 (field index_bits e s.now) zt.now) W (length s.now * 2) }
 {
@@ -52,7 +52,7 @@ fn pairs<const W: usize>(s: &[u8], zt: &[u8], high: &[u64; 16], o: &mut [u8])
 }
 
 // The same by 64 bytes of the destination, whose number is a literal, so that LLVM unrolls the loop; fewer at once.
-fn look<const W: usize>(s: &[u8], zt: &[u8], high: &[u64; 16], o: &mut [u8])
+fn look<const W: usize>(s: &[u8], zt: &[u8; 64], high: &[u64; 16], o: &mut [u8])
     requires { PairsReady (length s.now) (length o.old) W zt.now high.now × Chunked (length s.now) W }
     ensures { o.new ≡ fill (λ e. elem 4 (field index_bits e s.now) zt.now) W (length s.now * 2) }
 {
@@ -79,11 +79,17 @@ fn slot_of(z: &[u8], k: usize) -> [u8; 256]
     s
 }
 
+<<<<<<< HEAD
 // Zn is copied first, so that it may be a destination. Each width has its own instance, in which LLVM has its literals; out of the
 // run's loop, where it would slow down the other words.
 #[inline(never)]
 fn four_destinations<const W: usize>(z: &mut [u8], zt: &[u8], o: Operands, segment: usize)
     requires { SegmentReady (length z.old) (length zt.now) W segment }
+=======
+// Zn is copied first, so that it may be a destination. Each width has its own instance, in which LLVM has its literals.
+fn four_destinations<const W: usize>(z: &mut [u8], zt: &[u8; 64], o: Operands, segment: usize)
+    requires { SegmentReady (length z.old) W segment }
+>>>>>>> d19bff19d201d741ea2427401273e6dc4700cb76
     ensures { z.new ≡ luti_file index_bits (8 * W) o.vl destinations segment o.zn o.first o.stride zt.now z.old destinations }
 {
     let n = o.vl / 8;
@@ -98,8 +104,8 @@ fn four_destinations<const W: usize>(z: &mut [u8], zt: &[u8], o: Operands, segme
 }
 
 // Each size with its segment, of which 16 bits have one.
-pub(crate) fn luti4_file(z: &mut [u8], zt: &[u8], o: Operands)
-    requires { (length z.old ≡ vector_file) × (length zt.now ≡ table_file) }
+pub(crate) fn luti4_file(z: &mut [u8], zt: &[u8; 64], o: Operands)
+    requires { length z.old ≡ vector_file }
     ensures { z.new ≡ luti_file index_bits o.size o.vl destinations (segment_of index_bits o.size destinations o.i1) o.zn o.first o.stride zt.now z.old destinations }
 {
     if o.size == 16 {

@@ -6,4 +6,6 @@ pub returns-in_default-clause-z_after : goal.returns-in_default-clause-z_after
 returns-in_default-clause-z_after c = untouched _ _ _ _ _ _ _ _ c.in_default.ensures
 
 pub returns-clause-z_after : goal.returns-clause-z_after
-returns-clause-z_after c = worked _ _ _ _ _ _ _ _ _ _ c.in-Some.ensures c.luti4_file.ensures
+returns-clause-z_after c =
+    let table = rw c.unwrap.ensures at c.as_array.ensures.cases in
+    worked _ _ _ _ _ _ _ _ _ _ c.in-Some.ensures (rw table.same at c.luti4_file.ensures)

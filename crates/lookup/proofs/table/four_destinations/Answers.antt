@@ -27,7 +27,6 @@ look-requires g c =
     let n : length s.result ≡ 256 = ap length s.ensures ∙ slot_length 256 256 a.o.zn a.z.now (omega arith) in
     let eight : 8 * w / 8 ≡ w = omega arith in (
       record {
-        entries = p.entries;
         raised = c.raised-high.ensures;
         bytes = v;
         whole =
