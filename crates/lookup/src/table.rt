@@ -79,17 +79,11 @@ fn slot_of(z: &[u8], k: usize) -> [u8; 256]
     s
 }
 
-<<<<<<< HEAD
 // Zn is copied first, so that it may be a destination. Each width has its own instance, in which LLVM has its literals; out of the
 // run's loop, where it would slow down the other words.
 #[inline(never)]
-fn four_destinations<const W: usize>(z: &mut [u8], zt: &[u8], o: Operands, segment: usize)
-    requires { SegmentReady (length z.old) (length zt.now) W segment }
-=======
-// Zn is copied first, so that it may be a destination. Each width has its own instance, in which LLVM has its literals.
 fn four_destinations<const W: usize>(z: &mut [u8], zt: &[u8; 64], o: Operands, segment: usize)
     requires { SegmentReady (length z.old) W segment }
->>>>>>> d19bff19d201d741ea2427401273e6dc4700cb76
     ensures { z.new ≡ luti_file index_bits (8 * W) o.vl destinations segment o.zn o.first o.stride zt.now z.old destinations }
 {
     let n = o.vl / 8;
