@@ -31,7 +31,7 @@ fn rest(place: usize, features: u32, word: u32) -> bool
 }
 
 // The place of the first row that matches. Every row is tested, from the last: for words in no order a branch is rarely foreseen. The
-// place is a number up to the end: with an Option in the loop the listing took 1.14 of its time.
+// place is a number up to the end: with an Option in the loop the listing took 1.14 of the archive before, for a bar of 1.05.
 pub(crate) fn place_of(features: u32, word: u32) -> Option<usize>
     ensures { result ≡ found_place (place_first rows features word) }
 {

@@ -8,37 +8,44 @@ ghost use Rattle.encoding.specs.Private.{feature_bits};
 // The number of rows. A place is a number and no enum: `has_layout`, `fixed_bits` and `available` promise an answer for every number.
 pub const ROWS: usize = 6;
 
-// The bits that a layout fixes, and what it fixes them to.
+// A row's layout: the bits that it fixes, and what it fixes them to; and the features of which one is enough, as bits of the feature number.
 #[derive(Clone, Copy)]
-struct Fixed {
+struct Columns {
     mask: u32,
     bits: u32,
+    features: u32,
 }
 
-const LAYOUTS: [Fixed; ROWS] = [
-    Fixed {
+const TABLE: [Columns; ROWS] = [
+    Columns {
         mask: 0xff3ffc10,
         bits: 0x25207010,
+        features: 0b01010,
     },
-    Fixed {
+    Columns {
         mask: 0xff3ffe10,
         bits: 0x25207410,
+        features: 0b01010,
     },
-    Fixed {
+    Columns {
         mask: 0xff20c210,
         bits: 0x25204000,
+        features: 0b00110,
     },
-    Fixed {
+    Columns {
         mask: 0xfffecc03,
         bits: 0xc08a8000,
+        features: 0b01000,
     },
-    Fixed {
+    Columns {
         mask: 0xfffecc0c,
         bits: 0xc09a8000,
+        features: 0b10000,
     },
-    Fixed {
+    Columns {
         mask: 0xffa0c000,
         bits: 0x45200000,
+        features: 0b00101,
     },
 ];
 
@@ -80,7 +87,7 @@ pub fn has_layout(place: usize, word: u32) -> bool
     ensures { result ≡ has_layout place word }
 {
     if place < ROWS {
-        return word & LAYOUTS[place].mask == LAYOUTS[place].bits;
+        return word & TABLE[place].mask == TABLE[place].bits;
     }
     false
 }
@@ -90,24 +97,19 @@ pub fn fixed_bits(place: usize) -> u32
     ensures { result ≡ fixed_of (layout_at place) }
 {
     if place < ROWS {
-        return LAYOUTS[place].bits;
+        return TABLE[place].bits;
     }
     0
 }
 
-// The features of which one is enough, as bits of the feature number; none past the table's end.
+// The features of the row at a place; none past the table's end.
 fn feature_bits(place: usize) -> u32
     ensures { result ≡ feature_bits (features_at place) }
 {
-    match place {
-        0 => 0b01010,
-        1 => 0b01010,
-        2 => 0b00110,
-        3 => 0b01000,
-        4 => 0b10000,
-        5 => 0b00101,
-        _ => 0,
+    if place < ROWS {
+        return TABLE[place].features;
     }
+    0
 }
 
 // Whether the feature number has a feature of the row at a place of the table; no past its end.

@@ -36,14 +36,7 @@ pub fn index(
 {
     let (number, unit) = match unit(vl, size, offset, w) {
         Ok(unit) => (0, unit),
-        Err(refusal) => (
-            u32::from(refusal),
-            IndexUnit {
-                sum: 0,
-                mask: 0,
-                index: 0,
-            },
-        ),
+        Err(refusal) => (u32::from(refusal), IndexUnit::default()),
     };
     *sum = unit.sum;
     *mask = unit.mask;

@@ -8,10 +8,7 @@ use stretch::Reply;
 pub fn number(reply: Reply) -> u32
     ensures { result ≡ number_in (reply_as reply) }
 {
-    match reply {
-        Ok(_) => 0,
-        Err(refusal) => u32::from(refusal),
-    }
+    setting::number(reply.map(|_| ()))
 }
 
 pub fn yes(reply: Reply) -> u32

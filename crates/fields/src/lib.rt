@@ -56,7 +56,7 @@ pub struct NarrowOperands {
     pub zd: u32,
 }
 
-// 0 where the log is no size's.
+// 0 where the log is no size's (no Option: the definition of this name has 0).
 fn size_at(log: u32) -> u32
     ensures { result ≡ size_at log }
 {

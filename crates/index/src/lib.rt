@@ -9,7 +9,7 @@ ghost use Rattle.index.specs.Index.{unit_of, has_unit, no_unit};
 ghost use Rattle.index.specs.Claims.{Claims};
 
 // What the index unit has on its wires: the adder's sum, the mask, and the index.
-#[derive(Clone, Copy)]
+#[derive(Clone, Copy, Default)]
 pub struct IndexUnit {
     pub sum: u32,
     pub mask: u32,
@@ -45,11 +45,7 @@ pub fn unit(vl: u32, log: u32, w: u32, offset: u32) -> IndexUnit
     ensures { result ≡ pick (has_unit vl (size_at log)) (unit_of vl (size_at log) w offset) no_unit }
 {
     if !has_unit(vl, log) {
-        return IndexUnit {
-            sum: 0,
-            mask: 0,
-            index: 0,
-        };
+        return IndexUnit::default();
     }
     IndexUnit {
         sum: w.wrapping_add(offset),

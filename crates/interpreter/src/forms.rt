@@ -1,5 +1,6 @@
 // One word of each form, where the place of its row is known: its fields are read, and its operation is done under its access on the
-// file that it is lent. PC is left to the caller.
+// file that it is lent. PC is left to the caller. The setting is the run's, the scalars move and the word is one's own: no value has them
+// together.
 ghost use Rattle.std.specs.Prelude.{◌≡◌, ◌-◌, ◌<◌, ◌≤◌, [], ◌∷◌, slice_index};
 ghost use Rattle.logic.specs.Pick.{pick};
 ghost use Rattle.machine.specs.Private.{PredicateWord, VectorWord, TablelessWord};

@@ -16,6 +16,7 @@ ghost use Rattle.machine.specs.Private.{Checked, stepped_by, went_as};
 use machine::{Ran, Scalars, Stepped};
 use setting::{Answer, Refusal, Setting};
 
+// One word's step, in the loop; `Progress::moved_on` is that of all behind it, with one sum (`advanced`, `moved_on`: two definitions).
 fn advance(scalars: Scalars) -> Scalars
     ensures { result ≡ advanced scalars }
 {
@@ -25,7 +26,7 @@ fn advance(scalars: Scalars) -> Scalars
     }
 }
 
-// How far a stretch of at most 256 words came: how many were done, and the answer that it ended with.
+// How far a stretch of at most 256 words came: how many were done, of a refused one too (document 01), and the answer that it ended with.
 #[derive(Clone, Copy)]
 struct Progress {
     done: usize,
@@ -70,9 +71,9 @@ fn before_any(setting: Setting, z: usize, p: usize, zt: usize, words: usize) -> 
     Ok(())
 }
 
-// One word of a run, where the setting is allowed and each file has its length. A `match` and no table of closures, which would be handed
-// out, since the rows' arms take different files; a place is a number (crates/encoding/src/table.rt says why). The files stay three parameters, here and below: a
-// word is lent one of them alone, and `run` and `step`, which README.md names, are lent them so.
+// One word of a run, where the setting is allowed and each file has its length. A `match` and no table of closures, which would be
+// handed out, since the rows' arms take different files; a place is a number (crates/encoding/src/table.rt says why). The files stay three
+// parameters, here and below: a word is lent one of them alone, and `run` and `step`, which README.md names, are lent them so.
 fn step_in_run(
     z: &mut [u8],
     p: &mut [u8],

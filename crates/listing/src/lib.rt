@@ -68,7 +68,7 @@ fn hex(word: u32, out: &mut [u8])
     }
 }
 
-// A text at the start of out.
+// A text at the start of out. (Buffers stay slices whose length a clause says, here and below: an array would be taken of a part at each call.)
 fn put(text: &[u8], out: &mut [u8]) -> usize
     requires { length text.now ≤ length out.old }
     ensures { Wrote text.now out.old out.new result }

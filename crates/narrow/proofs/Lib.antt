@@ -7,3 +7,4 @@ pub mod Places
 pub mod Chunks
 pub mod Files
 pub mod Accepted
+pub mod Grouped

@@ -21,7 +21,8 @@ fn rest_ready(z: usize, vl: u32, size: u32, shift: u32, zn: u32, zd: u32) -> boo
     lengths & fields & ((zn < 32) & (zd < 32))
 }
 
-// The word with the bits op, U, R and T, of Zn into Zd. False, and nothing is written, for an argument outside its range.
+// The word with the bits op, U, R and T, of Zn into Zd. False, and nothing is written, for an argument outside its range. (A bool
+// and no Result: the clause `value` holds it.)
 #[tactic(auto, using(crate::proofs::Accepted::refused, crate::proofs::Accepted::by_size), unfolding(narrowing::specs::Calls::narrow_file))]
 pub fn narrow(
     z: &mut [u8],

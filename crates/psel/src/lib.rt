@@ -47,14 +47,15 @@ fn accepted(
     }
 }
 
-// Pm's element is read, and Pn's slot is copied (a slice of an array: no heap), before Pd is lent. (The length is no const parameter: the calls have its literals either way.)
+// Pm's element is read, and Pn's slot is copied (a slice of an array: no heap), before Pd is lent. (The length is no const parameter:
+// the calls have its literals either way.)
 fn select(p: &mut [u8], vl: u32, o: Operands)
     requires { (length p.old ≡ predicate_file) × (length_allowed vl ≡ true) }
     ensures { p.new ≡ set_slot 32 (vl / 64) o.pd (psel_of vl (size_at o.log) (o.w + o.offset) (slot 32 (vl / 64) o.pn p.old) (slot 32 (vl / 64) o.pm p.old)) p.old }
 {
     let n = (vl / 64) as usize;
     let f = 32 * (o.pm as usize);
-    let v = selection::value(&p[f..f + n], vl, o.log, o.w, o.offset);
+    let v = selection::value(&p[f..f + n], vl, o);
     let a = 32 * (o.pn as usize);
     let mut s = [0u8; 32];
     s.copy_from_slice(&p[a..a + 32]);

@@ -7,7 +7,7 @@ ghost use Rattle.element.specs.Contents.{fill, packed, bit};
 ghost use Rattle.psel.specs.Psel.{value_of};
 ghost use Rattle.psel.specs.Private.{ElementReady};
 
-use std::hint::select_unpredictable;
+use crate::operands::Operands;
 
 // Bit i of a predicate.
 fn test(s: &[u8], i: usize) -> bool
@@ -20,12 +20,12 @@ fn test(s: &[u8], i: usize) -> bool
 }
 
 // The chosen element of Pm.
-pub(crate) fn value(pm: &[u8], vl: u32, log: u32, w: u32, offset: u32) -> bool
-    requires { ElementReady vl log (length pm.now) }
-    ensures { result ≡ value_of vl (size_at log) (w + offset) pm.now }
+pub(crate) fn value(pm: &[u8], vl: u32, o: Operands) -> bool
+    requires { ElementReady vl o.log (length pm.now) }
+    ensures { result ≡ value_of vl (size_at o.log) (o.w + o.offset) pm.now }
 {
-    let unit = index::unit(vl, log, w, offset);
-    let i = unit.index << log;
+    let unit = index::unit(vl, o.log, o.w, o.offset);
+    let i = unit.index << o.log;
     test(pm, i as usize)
 }
 
@@ -39,12 +39,12 @@ fn masked(s: &[u8], m: u8, o: &mut [u8])
     }
 }
 
-// The pattern that keeps every bit of a byte, or none: chosen by no branch, which a value in no order would not let foresee. (Of a
-// product with `u8::from(v)` LLVM makes a copy or a fill by a call.)
+// The pattern that keeps every bit of a byte, or none. (LLVM may still make a branch of it, of `select_unpredictable` too: docs/DECISIONS.md
+// 75. Of a product with `u8::from(v)` it makes a copy or a fill by a call.)
 fn kept(v: bool) -> u8
     ensures { result ≡ pick v 255 0 }
 {
-    select_unpredictable(v, 255, 0)
+    if v { 255 } else { 0 }
 }
 
 // All of Pn, if the value is true, else zeros; no branch, so that no value is to be foreseen.

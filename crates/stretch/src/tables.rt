@@ -16,7 +16,7 @@ pub(crate) struct Entry {
 }
 
 // The words as entries. None is placed: each has the number of words for its place, as one that an order does not list (no Option: the
-// definition `place`, crates/order, has the list's length).
+// definition `place`, crates/order, has the list's length). An array of the most words that there may be: no heap.
 pub(crate) fn unplaced(setting: Setting, words: &[u32]) -> Result<[Entry; 256], Refusal>
     requires allowed { allowed_of setting ≡ true }
     requires few { length words.now ≤ 256 }

@@ -7,12 +7,12 @@ use Rattle.psel.proofs.selection.value.Goals as goal
 pub test-requires : goal.test-requires
 test-requires c =
     let s = c in
-    let p = chosen_bit s.args.vl s.args.log s.requires.sized s.requires.allowed s.args.w s.args.offset in
+    let p = chosen_bit s.args.vl s.args.o.log s.requires.sized s.requires.allowed s.args.o.w s.args.o.offset in
     rw (c.unit-unit.ensures, p.0, s.requires.whole) p.1
 
 pub returns : goal.returns
 unfolding value_of
 returns c =
     let s = c in
-    let p = chosen_bit s.args.vl s.args.log s.requires.sized s.requires.allowed s.args.w s.args.offset in
+    let p = chosen_bit s.args.vl s.args.o.log s.requires.sized s.requires.allowed s.args.o.w s.args.o.offset in
     c.test.ensures ∙ rw (c.unit-unit.ensures, p.0)
