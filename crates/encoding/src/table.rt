@@ -53,7 +53,7 @@ const TABLE: [Columns; ROWS] = [
 pub const NAMES: usize = 22;
 
 // A name as it follows a word's digits in a listing, with dots behind it up to the longest, and how long it is without them.
-// Kept in this form for speed: copied at its own length the lister takes 2.5 of fastlist, for a bar of 2 (docs/SPEED.md).
+// Kept in this form for speed: copied at its own length the lister takes 2.5 of fastlist, for a bar of 2.
 #[derive(Clone, Copy)]
 pub struct NameText(pub [u8; 11], pub usize);
 

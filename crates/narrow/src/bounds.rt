@@ -1,5 +1,5 @@
 // The bounds of a word's elements, computed once for the word: at s 8, 16 and 32 alike.
-ghost use Rattle.std.specs.Prelude.{◌≡◌, ◌*◌};
+ghost use Rattle.std.specs.Prelude.{◌*◌};
 ghost use Rattle.narrow.specs.Private.{Sized, InClass};
 
 // A signed element lies from lo to hi. An unsigned one above top is cut; h is the rounding term.

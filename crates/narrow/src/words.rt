@@ -1,5 +1,6 @@
 // The sixteen words on elements of W bytes, by their class. Each call of the loops has literals (src/elements.rt says why).
-// A word's bits and fields stay parameters of their own: tried as structs, they went through memory, and UQSHRNB at VL 128 took 1.4 times as long.
+// A word's bits and fields stay parameters of their own: tried as structs, they went through memory: UQSHRNB S at VL 128 took
+// 1.28 of the archive before, for 0.74 without (the bar of issue 16 is 1.05).
 // What `ChunksReady` and `Prepared` ask is of the file and the numbers of a call together, no one value's: they stay clauses.
 ghost use Rattle.std.specs.Prelude.{◌≡◌, true, false, length, ◌/◌};
 ghost use Rattle.narrow.specs.Private.{Middle, Chunks, ChunksReady, chunks_of};

@@ -5,7 +5,6 @@ mod tables;
 mod touch;
 
 ghost use Rattle.std.specs.Prelude.{◌≡◌};
-ghost use Rattle.setting.specs.Numbers.{accept};
 ghost use Rattle.stretch.specs.Conflict.{conflict_of, reply_as};
 ghost use Rattle.stretch.specs.Permission.{permitted_of};
 ghost use Rattle.stretch.specs.Claims.{Claims};
