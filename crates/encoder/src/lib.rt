@@ -14,14 +14,13 @@ use setting::{Refusal, Setting};
 pub fn encode(setting: Setting, instruction: Instruction) -> Result<u32, Refusal>
     ensures { encoded_as result ≡ encode_of setting instruction }
 {
-    let features = setting.features;
     if !setting::allowed(setting) {
         return Err(Refusal::NotAllowed);
     }
     if !ranges::in_range(instruction) {
         return Err(Refusal::OutOfRange);
     }
-    if !table::available(encoding::place(instruction), features) {
+    if !table::available(encoding::place(instruction), setting.features) {
         return Err(Refusal::Undefined);
     }
     Ok(words::word_of(instruction))

@@ -33,7 +33,8 @@ pub struct PselOperands {
     pub pd: u32,
 }
 
-// LUTI4's; the destinations are `stride` apart, 1 in the consecutive layout and 4 in the strided one.
+// LUTI4's; the destinations are `stride` apart, 1 in the consecutive layout and 4 in the strided one: a number that the
+// operation multiplies by, and no kind.
 #[derive(Clone, Copy)]
 pub struct LutiOperands {
     pub size: u32,

@@ -80,11 +80,9 @@ pub extern "C" fn gighull_run(
         t,
     };
     let r = interpreter::run(z, p, zt, scalars, Setting { vl, features }, words);
-    let answer = r.answer;
-    let left = r.scalars;
-    *pc = left.pc;
+    *pc = r.scalars.pc;
     *done = r.done;
-    setting::number(answer)
+    setting::number(r.answer)
 }
 
 // Whether two words conflict: 1 for yes.

@@ -9,7 +9,8 @@ use self::Register::{Index, Predicate, Table, Vector};
 use encoding::Instruction;
 use setting::{Refusal, Setting};
 
-// A register that a word may touch: Z0 to Z31, P0 to P15, ZT0, W12 to W15.
+// A register that a word may touch: Z0 to Z31, P0 to P15, ZT0, W12 to W15 (a clause, `IsThere`, and no invariant: an enum has no ghost
+// field).
 #[derive(Clone, Copy)]
 enum Register {
     Vector(u32),

@@ -1,5 +1,5 @@
 // A word's operation under the access that it needs, on the file that it is lent: 4, 5 or 6 with the file as it was, or done. The fields
-// come as numbers, and PC is left to the caller. The lists of numbers stay: README.md and docs/landings name this crate's functions,
+// come as numbers, and PC is left to the caller. The lists of numbers stay: README.md names this crate and docs/landings its functions,
 // whose callers may be asked for no other type. A refusal is returned where its flag is tested, and not by `?` of a function's answer:
 // LLVM then knows at each end of a word whether it is done (with `?` PEXT took 1.1 of the time, UQRSHRNB up to 1.4).
 #![tactic(auto)]
