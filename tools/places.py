@@ -162,7 +162,7 @@ def together(texts):
             names = tuple(p for p in split_params(params) if "self" not in p)
             if len(names) >= 4:
                 sets[crate].append((frozenset(names), f"{path.name}:{line} {name}"))
-            for clause in set(re.findall(r"\b([A-Z]\w+)\b(?= [a-z(])", " ".join(contract))):
+            for clause in set(re.findall(r"\b([A-Z]\w*[a-z]\w*)\b(?= [A-Za-z(])", " ".join(contract))):
                 facts[(crate, clause)].append(f"{path.name}:{line} {name}")
     for crate, rows in sets.items():
         best = {}
@@ -189,7 +189,7 @@ def buffers(path, text):
     for length, names in by_length.items():
         if len(names) > 1:
             yield 1, f"arrays of one length {length}: {', '.join(sorted(names))}"
-    for m in re.finditer(r"let mut (\w+) = \[0u\d+; (\w+)\];", text):
+    for m in re.finditer(r"let mut (\w+) = \[[^;\]]{1,200}; ([A-Z0-9]\w*)\];", text):
         yield line_of(text, m.start()), f"a buffer: {m[1]}"
 
 
