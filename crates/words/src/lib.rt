@@ -1,7 +1,8 @@
 // A word's operation under the access that it needs, on the file that it is lent: 4, 5 or 6 with the file as it was, or done. The fields
-// come as numbers, and PC is left to the caller. The lists of numbers stay: README.md names this crate and docs/landings its functions,
-// whose callers may be asked for no other type. A refusal is returned where its flag is tested, and not by `?` of a function's answer:
-// LLVM then knows at each end of a word whether it is done (with `?` PEXT took 1.1 of the time, UQRSHRNB up to 1.4).
+// come as numbers, and PC is left to the caller. The lists of numbers are the leaves' own, which README.md and docs/ name: a struct between
+// would be made for one call and taken apart in the next. A refusal is returned where its flag is tested, and not by `?` of a function's
+// answer: LLVM then knows at each end of a word whether it is done (with `?` PEXT took 1.06 to 1.13 and UQRSHRNB B up to 1.40 of the archive
+// before, for bars of 1.05 and 1.25).
 #![tactic(auto)]
 
 mod access;
