@@ -51,7 +51,8 @@ impl Bank {
     }
 }
 
-// The VL/8 bytes of a Z register, a part of the vector file; empty on refusal. (docs/DECISIONS.md and the C interface name it and `predicate`.)
+// The VL/8 bytes of a Z register, a part of the vector file; empty on refusal. (C calls it and `predicate`, by
+// `gighull_vector` and `gighull_predicate`; docs/DECISIONS.md names both.)
 pub fn vector<'a>(file: &'a [u8], vl: u32, register: u32) -> &'a [u8]
     ensures { result.now ≡ vector_of file.now vl register }
 {

@@ -7,7 +7,7 @@ use encoding::Instruction;
 use setting::Refusal;
 
 // What the row at a place of the table, from 0, reads a word as, whether it matches or not; 3 past the table's end. (Why a place
-// is a number: crates/encoding/src/table.rt.)
+// is a number: crates/encoding/src/table.rt. A table of closures would say no more, with the answer past its end beside it.)
 pub(crate) fn read(place: usize, word: u32) -> Result<Instruction, Refusal>
     ensures { decoded_as result ≡ read_at rows place word }
 {

@@ -8,7 +8,8 @@ use encoding::table;
 use encoding::table::ROWS;
 use std::hint::select_unpredictable;
 
-// The field condition of the row at a place of the table; not met past its end. (Why a place is a number: crates/encoding/src/table.rt.)
+// The field condition of the row at a place of the table; not met past its end. (Why a place is a number:
+// crates/encoding/src/table.rt. Six expressions by number: a table of closures would say no more, with the answer past its end beside it.)
 fn condition(place: usize, word: u32) -> bool
     ensures { result ≡ condition_at rows place word }
 {

@@ -189,10 +189,7 @@ pub fn pext(pair: bool, word: u32) -> PextOperands
 fn above_lowest(bits: u32, log: u32) -> u32
     ensures { result ≡ bits / 2 ^ (log + 1) }
 {
-    if log < 31 {
-        return bits >> (log + 1);
-    }
-    0
+    bits.unbounded_shr(log) >> 1
 }
 
 pub fn psel(word: u32) -> PselOperands

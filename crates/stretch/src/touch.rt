@@ -9,8 +9,8 @@ use self::Register::{Index, Predicate, Table, Vector};
 use encoding::Instruction;
 use setting::{Refusal, Setting};
 
-// A register that a word may touch: Z0 to Z31, P0 to P15, ZT0, W12 to W15 (a clause, `IsThere`, and no invariant: an enum has no ghost
-// field).
+// A register that a word may touch: Z0 to Z31, P0 to P15, ZT0, W12 to W15 (a clause, `IsThere`: an enum takes no ghost field, and a
+// struct around it would be built at each register and matched through in `bit`).
 #[derive(Clone, Copy)]
 enum Register {
     Vector(u32),

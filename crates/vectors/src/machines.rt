@@ -101,7 +101,7 @@ pub(crate) struct Hashes {
     zt: u64,
 }
 
-// Makes the files, in buffers that are longer than any file that is asked about, and does the task on them. They stay
+// Makes the files, in buffers (no heap) that are longer than any file that is asked about, and does the task on them. They stay
 // three parameters: `step_through` and `run` take them so, and a call with two fields of a struct of them has no proof.
 pub(crate) fn after<T, F: FnOnce(&mut [u8], &mut [u8], &mut [u8]) -> T>(
     start: Start,
