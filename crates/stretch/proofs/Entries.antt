@@ -1,6 +1,5 @@
 -- The entries before any word is read; and a position that fails the code's test fails the definition's.
-use Rattle.std.proofs.Common.{◌≡◌, Bool, false, ltb, take, sym, ℕ, ◌≤◌, ◌<◌, List, length, replicate, refl, ap}
-use Rattle.std.proofs.Math.ListN.{length-replicate, get_or-replicate}
+use Rattle.std.proofs.Common.{◌≡◌, Bool, false, ltb, take, sym, ℕ, ◌≤◌, ◌<◌, List, length, refl}
 use native.Mathlib.Nat.{not-suc-le-zero}
 use borrow.Author.Tests.{le-ltb}
 use mathlib.Core.Bool.{and-false}
@@ -9,17 +8,15 @@ use Rattle.element.proofs.Tests.{said_no}
 use Rattle.std.specs.List.{list_all}
 use Rattle.setting.specs.declared.Setting.{Setting}
 use Rattle.logic.specs.Every.{all}
-use Rattle.stretch.specs.Private.{joined, entry, entry_at, Told, keeps_entry, stands_at}
-use Rattle.stretch.specs.declared.touch.Touch.{Touch}
+use Rattle.stretch.specs.Private.{entry_at, Told, keeps_entry, stands_at}
 use Rattle.stretch.specs.declared.tables.Entry.{Entry}
 
-module _ (s : Setting) (words : List ℕ) where
-  pub told_none : (t : Touch) → Told s words 0 (replicate 256 (entry t (length words)))
-  told_none t = record {
-    long = length-replicate 256 (entry t (length words));
+module _ (s : Setting) (words : List ℕ) (entries : List Entry) where
+  pub told_none : length entries ≡ length words → Told s words 0 entries
+  told_none e = record {
+    long = e;
     read = refl;
-    touch = λ i h. absurd (not-suc-le-zero h);
-    place = λ i h. ap (λ (e : Entry). e.place) (get_or-replicate 256 i (entry t (length words)) (entry (joined 0 0) 0) h);
+    each = λ i h. absurd (not-suc-le-zero h);
   }
 
 -- ---- a position that fails

@@ -5,7 +5,6 @@ use mathlib.Core.List.{List}
 use Prim.Native.Nat.{ℕ, zero, suc, ◌≤◌, ◌<◌}
 use native.Mathlib.Omega.{arith}
 use lib.Dec.{ltb}
-use Rattle.std.proofs.lemmas.List.{get_or-take, length-take-le}
 use lib.ListN.{length, get_or, take}
 use Rattle.std.specs.List.{list_all}
 use Rattle.std.proofs.lemmas.List.Folds.{list_all_more}
@@ -20,7 +19,6 @@ use Rattle.order.specs.Tested.{keeps, rearranges, permits}
 use Rattle.stretch.specs.Conflict.{conflict}
 use Rattle.stretch.specs.Permission.{all_read, permitted_by, permitted_of}
 use Rattle.stretch.specs.declared.tables.Entry.{Entry}
-use Rattle.stretch.specs.declared.touch.Touch.{Touch}
 use Rattle.stretch.specs.Private.{touch_of, entry, entry_at, Told, Unplaced, Placed, keeps_entry, stands_at}
 use Rattle.stretch.proofs.Clashes.{clash_is_conflict}
 use Rattle.stretch.proofs.Listed.{listed_rearranges}
@@ -71,23 +69,15 @@ module _ (s : Setting) (words order : List ℕ) (entries : List Entry)
       ∙ ap (λ (b : Bool). b && permits (conflict s) words order) (listed_rearranges (length words) order same)
 
 -- the entries of the words, before and after they are placed
-module _ (s : Setting) (words order : List ℕ) (same : length order ≡ length words) (few : length words ≤ 256) (table : List Entry) (T : Told s words (length words) table) where
-  long_front : length (take (length words) table) ≡ length words
-  long_front = length-take-le (length words) table (omega (arith, T.long))
+module _ (s : Setting) (words order : List ℕ) (same : length order ≡ length words) (told : List Entry) (T : Told s words (length words) told) where
+  pub all_unplaced : Unplaced (length order) told
+  all_unplaced i h = ap (λ (e : Entry). e.place) (T.each i (omega (arith, T.long))) ∙ sym same
 
-  at_front : (i : ℕ) → i < length words → entry_at (take (length words) table) i ≡ entry_at table i
-  at_front i l = get_or-take (length words) table i _ l
-
-  pub front_unplaced : Unplaced (length order) (take (length words) table)
-  front_unplaced i h =
-      let l : i < length words = omega (arith, long_front) in
-      ap (λ (e : Entry). e.place) (at_front i l) ∙ T.place i (omega arith) ∙ sym same
-
-  pub placed_permitted : (entries : List Entry) → length entries ≡ length (take (length words) table) → Placed order (take (length words) table) entries
+  pub placed_permitted : (entries : List Entry) → length entries ≡ length told → Placed order told entries
       → {b : Bool} → b ≡ all (stands_at entries) (length entries) → b ≡ permitted_by s words order
   placed_permitted entries l P =
-      stands_permitted s words order entries same (l ∙ long_front)
-      (λ i h. P i (omega (arith, long_front)) ∙ ap (λ (t : Touch). entry t (place i order)) (ap (λ (e : Entry). e.touch) (at_front i h) ∙ T.touch i h))
+      stands_permitted s words order entries same (l ∙ T.long)
+      (λ i h. P i (omega (arith, T.long)) ∙ ap (λ (e : Entry). entry e.touch (place i order)) (T.each i h))
 
 -- ---- the answers
 module _ (s : Setting) (words order : List ℕ) where

@@ -85,12 +85,11 @@ entry t p = record { touch = t; place = p }
 abbrev pub entry_at : List Entry → ℕ → Entry
 entry_at entries i = get_or entries i (entry (joined 0 0) 0)
 
--- the first n words are read, and the entries say what each touches; none of the entries is placed
+-- the first n words are read, and the entries say what each touches; none of these is placed
 pub record Told (s : Setting) (words : List ℕ) (n : ℕ) (entries : List Entry) : Type 0 where
-  pub long : length entries ≡ 256
+  pub long : length entries ≡ length words
   pub read : all (λ i. is_read s (get_or words i 0)) n ≡ true
-  pub touch : (i : ℕ) → i < n → (entry_at entries i).touch ≡ touch_of s (get_or words i 0)
-  pub place : (i : ℕ) → i < 256 → (entry_at entries i).place ≡ length words
+  pub each : (i : ℕ) → i < n → entry_at entries i ≡ entry (touch_of s (get_or words i 0)) (length words)
 
 -- a word is refused as undefined
 pub record UnreadIn (s : Setting) (words : List ℕ) (a : Refusal) : Type 0 where

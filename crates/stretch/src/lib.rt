@@ -10,6 +10,7 @@ ghost use Rattle.stretch.specs.Permission.{permitted_of};
 ghost use Rattle.stretch.specs.Claims.{Claims};
 
 use setting::{Refusal, Setting};
+use tables::Entry;
 use touch::Touch;
 
 // What a question about words answers: yes or no, or a refusal. `reply_as` has the number and value of each.
@@ -35,11 +36,13 @@ pub fn permitted(setting: Setting, words: &[u32], order: &[u32]) -> Reply
     if n > 256 {
         return Err(Refusal::TooManyWords);
     }
-    let mut table = tables::unplaced(setting, words)?;
+    // an array of the most words that there may be (no heap), and a slice of it
+    let mut table = [Entry::default(); 256];
+    let entries = &mut table[..n];
+    tables::give_touches(setting, entries, words)?;
     if order.len() != n {
         return Ok(false);
     }
-    let entries = &mut table[..n];
     tables::give_places(entries, order);
     Ok(tables::stands(entries))
 }

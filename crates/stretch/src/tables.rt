@@ -9,27 +9,30 @@ use crate::touch::Touch;
 use setting::{Refusal, Setting};
 
 // A word of the stretch: what it touches, and its place in the order.
-#[derive(Clone, Copy)]
+#[derive(Clone, Copy, Default)]
 pub(crate) struct Entry {
     touch: Touch,
     place: usize,
 }
 
-// The words as entries. None is placed: each has the number of words for its place, as one that an order does not list (no Option: the
-// definition `place`, crates/order, has the list's length). An array of the most words that there may be: no heap.
-pub(crate) fn unplaced(setting: Setting, words: &[u32]) -> Result<[Entry; 256], Refusal>
+// Gives each entry what its word touches. None is placed: each has the number of words for its place, as one that an order does not list
+// (no Option: the definition `place`, crates/order, has the list's length). The entries are lent: a table that is answered is copied.
+pub(crate) fn give_touches(
+    setting: Setting,
+    entries: &mut [Entry],
+    words: &[u32],
+) -> Result<(), Refusal>
     requires allowed { allowed_of setting ≡ true }
-    requires few { length words.now ≤ 256 }
-    ensures { MatchResult result (Told setting words.now (length words.now)) (UnreadIn setting words.now) }
+    requires each { length entries.old ≡ length words.now }
+    ensures { MatchResult result (λ done. Told setting words.now (length words.now) entries.new) (UnreadIn setting words.now) }
 {
-    let mut entries = [Entry {
-        touch: Touch::default(),
-        place: words.len(),
-    }; 256];
     for (i, word) in words.iter().enumerate() {
-        entries[i].touch = Touch::read(setting, *word)?;
+        entries[i] = Entry {
+            touch: Touch::read(setting, *word)?,
+            place: words.len(),
+        };
     }
-    Ok(entries)
+    Ok(())
 }
 
 // Gives each entry its place in the order. From the last one, so that the first of two stays.
