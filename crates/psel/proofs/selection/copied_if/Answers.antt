@@ -7,4 +7,4 @@ pub returns : goal.returns
 returns c =
     let a = c.args in
     c.masked.ensures
-    ∙ all_or_none a.pn.now (λ j. (c.type_inv.pn j).fits) _ c.kept.result a.v c.requires c.kept.ensures
+    ∙ all_or_none a.pn.now (λ j. (c.type_inv.pn j).fits) _ _ a.v c.requires.0 c.requires.1 c.kept.ensures

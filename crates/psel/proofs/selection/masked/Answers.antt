@@ -14,5 +14,6 @@ loop-k-preserved c =
     let a = c.args in
     let l = c.loop-k in
     let x = get_or a.s.now l.k 0 in
-    let h = and_le_l x a.m in
-    store (λ (j : ℕ). bit_and (get_or a.s.now j 0) a.m) l.k a.o.now l.o (bit_and x a.m) (omega arith) l.invariant refl (omega (arith, h, c.type_inv.s l.k))
+    let m = get_or a.m.now l.k 0 in
+    let h = and_le_l x m in
+    store (λ (j : ℕ). bit_and (get_or a.s.now j 0) (get_or a.m.now j 0)) l.k a.o.now l.o (bit_and x m) (omega arith) l.invariant refl (omega (arith, h, c.type_inv.s l.k))
