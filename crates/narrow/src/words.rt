@@ -31,23 +31,37 @@ pub(crate) fn even_saturated<const W: usize>(
     if n == 1 {
         return narrow_chunks::<W, true, true>(z, 1, 16 / W, r, false, shift, zn, zd);
     }
-    middle::<W>(z, n, r, shift, zn, zd);
+    if W == 2 {
+        return middle::<W>(z, n, r, shift, zn, zd);
+    }
+    middle_apart::<W>(z, n, r, shift, zn, zd);
 }
 
-// The same at the middle lengths, VL 512 and 1024: in the run's loop they would slow down the words that do not narrow (docs/DECISIONS.md).
-#[inline(never)]
+// The same at the middle lengths, VL 512 and 1024. To 8 bits in the run's loop too, where a call would take a third of a word's time.
+#[inline(always)]
 fn middle<const W: usize>(z: &mut [u8], n: usize, r: bool, shift: u32, zn: usize, zd: usize)
     requires chunks { ChunksReady (length z.old) n (16 / W) W shift zn zd }
     requires length { Middle n }
     ensures { z.new ≡ chunks_of n (16 / W) W true true r false shift zn zd z.old }
 {
-    if n == 8 {
+    // by its order: a fourth equality makes a switch of them, whose jump takes longer than a word
+    if n > 4 {
         return narrow_chunks::<W, true, true>(z, 1, 128 / W, r, false, shift, zn, zd);
     }
     narrow_chunks::<W, true, true>(z, 1, 64 / W, r, false, shift, zn, zd);
 }
 
-// Each word at each length: out of the run's loop, as `middle` is.
+// The same out of the run's loop: to 16 and 32 bits it would slow down the words there that do not narrow (docs/DECISIONS.md).
+#[inline(never)]
+fn middle_apart<const W: usize>(z: &mut [u8], n: usize, r: bool, shift: u32, zn: usize, zd: usize)
+    requires chunks { ChunksReady (length z.old) n (16 / W) W shift zn zd }
+    requires length { Middle n }
+    ensures { z.new ≡ chunks_of n (16 / W) W true true r false shift zn zd z.old }
+{
+    middle::<W>(z, n, r, shift, zn, zd);
+}
+
+// Each word at each length: out of the run's loop, as `middle_apart` is.
 #[inline(never)]
 pub(crate) fn narrow_any<const W: usize>(
     z: &mut [u8],
