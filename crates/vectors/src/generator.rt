@@ -12,10 +12,11 @@ pub(crate) fn fill(file: &mut [u8], from: u64) -> u64 {
     for chunk in file.chunks_mut(8) {
         state = state.wrapping_add(0x9e3779b97f4a7c15);
         let bytes = output(state).to_le_bytes();
+        // lent: an array's own iterator would take each byte out of an Option
         chunk
             .iter_mut()
-            .zip(bytes)
-            .for_each(|(place, byte)| *place = byte);
+            .zip(&bytes)
+            .for_each(|(place, byte)| *place = *byte);
     }
     state
 }
