@@ -1,6 +1,11 @@
 -- Document 01, "Numbers the bench answers with": an outcome as its number, and a yes as 1.
-use Rattle.std.specs.Prelude.{Bool, true, false, ℕ}
-use Rattle.setting.specs.Numbers.{Outcome, accept, refuse}
+use Rattle.std.specs.Prelude.{Bool, true, false, ℕ, Result, Ok, Err}
+use Rattle.setting.specs.Numbers.{Answer, number_of, Outcome, accept, refuse}
+
+-- a value, or any answer in place of one
+abbrev pub outcome_of : {A : Type 0} → Result A Answer → Outcome A
+outcome_of (Ok a) = accept a
+outcome_of (Err answer) = refuse (number_of answer)
 
 -- 0 for what is accepted
 abbrev pub number_in : {A : Type 0} → Outcome A → ℕ

@@ -5,16 +5,15 @@ pub mod adder;
 pub mod replies;
 
 ghost use Rattle.std.specs.Prelude.{◌≡◌};
-ghost use Rattle.encoding.specs.Decode.{decoded_as};
 ghost use Rattle.encoding.specs.Encode.{encoded_as};
 ghost use Rattle.listing.specs.Buffer.{Wrote};
-ghost use Rattle.exported.specs.Numbers.{number_in};
+ghost use Rattle.exported.specs.Numbers.{outcome_of, number_in};
 ghost use Rattle.exported.specs.Fields.{read_into, write_of};
 ghost use Rattle.exported.specs.Buffers.{fitting};
 ghost use Rattle.exported.specs.Version.{interface_version};
 
 use encoding::Instruction;
-use setting::{Refusal, Setting};
+use setting::{Answer, Refusal, Setting};
 
 // The number of the interface.
 pub fn interface_version() -> u32
@@ -23,16 +22,16 @@ pub fn interface_version() -> u32
     5
 }
 
-// The number of a reading, and its fields in a list of seven.
-pub fn read(decoded: Result<Instruction, Refusal>, fields: &mut [u32]) -> u32
-    ensures { (result ≡ number_in (decoded_as decoded)) × (fields.new ≡ read_into (decoded_as decoded) fields.old) }
+// The number of a reading, and its fields in a list of seven. In place of a reading any answer is told, also one that is no refusal.
+pub fn read(decoded: Result<Instruction, Answer>, fields: &mut [u32]) -> u32
+    ensures { (result ≡ number_in (outcome_of decoded)) × (fields.new ≡ read_into (outcome_of decoded) fields.old) }
 {
     match decoded {
         Ok(instruction) => {
             numbers::put(instruction, fields);
             0
         }
-        Err(refusal) => u32::from(refusal),
+        Err(answer) => setting::number(answer),
     }
 }
 

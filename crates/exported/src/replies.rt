@@ -1,18 +1,21 @@
-// A reply as the two numbers that cross the C interface (`gighull_conflict`, `gighull_permitted`): document 01's, and 1 for yes.
+// A reply as the two numbers that cross the C interface (`gighull_conflict`, `gighull_permitted`): document 01's, and 1 for yes. In place
+// of yes or no any answer is told, also one that is no refusal.
 ghost use Rattle.std.specs.Prelude.{◌≡◌};
-ghost use Rattle.stretch.specs.Conflict.{reply_as};
-ghost use Rattle.exported.specs.Numbers.{number_in, yes_in};
+ghost use Rattle.exported.specs.Numbers.{outcome_of, number_in, yes_in};
 
-use stretch::Reply;
+use setting::Answer;
 
-pub fn number(reply: Reply) -> u32
-    ensures { result ≡ number_in (reply_as reply) }
+pub fn number(reply: Result<bool, Answer>) -> u32
+    ensures { result ≡ number_in (outcome_of reply) }
 {
-    setting::number(reply.map(|_| ()))
+    match reply {
+        Ok(_) => 0,
+        Err(answer) => setting::number(answer),
+    }
 }
 
-pub fn yes(reply: Reply) -> u32
-    ensures { result ≡ yes_in (reply_as reply) }
+pub fn yes(reply: Result<bool, Answer>) -> u32
+    ensures { result ≡ yes_in (outcome_of reply) }
 {
     u32::from(reply.unwrap_or(false))
 }

@@ -97,6 +97,7 @@ pub extern "C" fn gighull_conflict(
     ensures { (result ≡ number_in (conflict_of (setting_of vl features) first second)) × (conflict.new ≡ yes_in (conflict_of (setting_of vl features) first second)) }
 {
     let reply = stretch::conflict(Setting { vl, features }, first, second);
+    let reply = reply.map_err(Err);
     *conflict = replies::yes(reply);
     replies::number(reply)
 }
@@ -113,6 +114,7 @@ pub extern "C" fn gighull_permitted(
     ensures { (result ≡ number_in (permitted_of (setting_of vl features) words.now order.now)) × (permitted.new ≡ yes_in (permitted_of (setting_of vl features) words.now order.now)) }
 {
     let reply = stretch::permitted(Setting { vl, features }, words, order);
+    let reply = reply.map_err(Err);
     *permitted = replies::yes(reply);
     replies::number(reply)
 }
@@ -122,7 +124,8 @@ pub extern "C" fn gighull_permitted(
 pub extern "C" fn gighull_decode(vl: u32, features: u32, word: u32, fields: &mut [u32]) -> u32
     ensures { (result ≡ number_in (decode_of (setting_of vl features) word)) × (fields.new ≡ read_into (decode_of (setting_of vl features) word) fields.old) }
 {
-    exported::read(decoder::decode(Setting { vl, features }, word), fields)
+    let decoded = decoder::decode(Setting { vl, features }, word).map_err(Err);
+    exported::read(decoded, fields)
 }
 
 // The word that seven numbers are written as; 0 where it is refused.
