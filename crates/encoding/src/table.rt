@@ -1,4 +1,4 @@
-// The table of layouts as the code has it, a column at a time, in document 01's order: the decoder, the encoder and the lister share it.
+// The table of layouts as the code has it, a row at a time, in document 01's order: the decoder, the encoder and the lister share it.
 ghost use Rattle.std.specs.Prelude.{◌≡◌};
 ghost use Rattle.setting.specs.Allowed.{has_any};
 ghost use Rattle.encoding.specs.Layout.{fixed_of};
