@@ -61,10 +61,17 @@ taken s small zero h = refl
 taken s small (suc n) h = rw (taken s small n (omega arith), mod-eq_of_lt (small n)) (sym (take-suc s n 0 (omega arith)))
 
 -- under 255 a byte stays, under 0 nothing of it does
-pub all_or_none : (s : List ℕ) → ((k : ℕ) → get_or s k 0 < 256) → (n : ℕ) (m : List ℕ) (v : Bool) → length s ≡ n → n ≤ 32 → m ≡ replicate 32 (pick v 255 0)
-    → fill (λ k. bit_and (get_or s k 0) (get_or m k 0)) 1 n ≡ pick v s (packed (λ b. false) n)
+pub all_or_none : (s : List ℕ) → ((k : ℕ) → get_or s k 0 < 256) → (n m : ℕ) (v : Bool) → length s ≡ n → m ≡ pick v 255 0
+    → fill (λ k. bit_and (get_or s k 0) m) 1 n ≡ pick v s (packed (λ b. false) n)
 unfolding packed octet gather
-all_or_none s small n m true l r e =
-    same (λ k. bit_and (get_or s k 0) (get_or m k 0)) (λ k. get_or s k 0) 1 n (λ k h. rw (e, get_or-replicate {A = ℕ} 32 k 255 0 (omega arith)) (and_mask (get_or s k 0) 8 ∙ mod-eq_of_lt (small k)))
+all_or_none s small n m true l e =
+    same (λ k. bit_and (get_or s k 0) m) (λ k. get_or s k 0) 1 n (λ k h. rw e (and_mask (get_or s k 0) 8 ∙ mod-eq_of_lt (small k)))
     ∙ taken s small n (omega arith) ∙ take_all n s (omega arith)
-all_or_none s small n m false l r e = same (λ k. bit_and (get_or s k 0) (get_or m k 0)) (octet (λ b. false)) 1 n (λ k h. rw (e, get_or-replicate {A = ℕ} 32 k 0 0 (omega arith)) (and_zero_r (get_or s k 0)))
+all_or_none s small n m false l e = same (λ k. bit_and (get_or s k 0) m) (octet (λ b. false)) 1 n (λ k h. rw e (and_zero_r (get_or s k 0)))
+
+-- the same under a pattern of as many bytes as a register has
+pub by_pattern : (s : List ℕ) → ((k : ℕ) → get_or s k 0 < 256) → (n : ℕ) (ms : List ℕ) (v : Bool) → length s ≡ n → n ≤ 32 → ms ≡ replicate 32 (pick v 255 0)
+    → fill (λ k. bit_and (get_or s k 0) (get_or ms k 0)) 1 n ≡ pick v s (packed (λ b. false) n)
+by_pattern s small n ms v l r e =
+    same (λ k. bit_and (get_or s k 0) (get_or ms k 0)) (λ k. bit_and (get_or s k 0) (pick v 255 0)) 1 n (λ k h. rw (e, get_or-replicate {A = ℕ} 32 k (pick v 255 0) 0 (omega arith)) refl)
+    ∙ all_or_none s small n (pick v 255 0) v l refl
