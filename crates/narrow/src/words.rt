@@ -8,7 +8,7 @@ ghost use Rattle.narrow.specs.Private.{Middle, Chunks, ChunksReady, chunks_of};
 use crate::elements::{narrow_chunks, narrow_cut};
 
 // UQSHRNB and UQRSHRNB, with the number of chunks a literal at each length, for which the compiler makes straight code. It takes VL 128,
-// 256 and 2048 into the run's loop.
+// 256 and 2048 into the run's loop, and to 8 bits the lengths between them too.
 #[inline(always)]
 pub(crate) fn even_saturated<const W: usize>(
     z: &mut [u8],
