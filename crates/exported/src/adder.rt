@@ -34,12 +34,19 @@ pub fn index(
 ) -> u32
     ensures { indexed_as result sum.new mask.new index.new ≡ indexed_of vl size offset w }
 {
-    let (number, unit) = match unit(vl, size, offset, w) {
-        Ok(unit) => (0, unit),
-        Err(refusal) => (u32::from(refusal), IndexUnit::default()),
-    };
-    *sum = unit.sum;
-    *mask = unit.mask;
-    *index = unit.index;
-    number
+    // stored in each arm: of one place behind them LLVM makes longer code
+    match unit(vl, size, offset, w) {
+        Ok(unit) => {
+            *sum = unit.sum;
+            *mask = unit.mask;
+            *index = unit.index;
+            0
+        }
+        Err(refusal) => {
+            *sum = 0;
+            *mask = 0;
+            *index = 0;
+            u32::from(refusal)
+        }
+    }
 }
