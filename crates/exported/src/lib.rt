@@ -7,7 +7,7 @@ pub mod replies;
 ghost use Rattle.std.specs.Prelude.{◌≡◌};
 ghost use Rattle.encoding.specs.Encode.{encoded_as};
 ghost use Rattle.listing.specs.Buffer.{Wrote};
-ghost use Rattle.exported.specs.Numbers.{outcome_of, number_in};
+ghost use Rattle.exported.specs.Numbers.{outcome_as, number_in};
 ghost use Rattle.exported.specs.Fields.{read_into, write_of};
 ghost use Rattle.exported.specs.Buffers.{fitting};
 ghost use Rattle.exported.specs.Version.{interface_version};
@@ -24,7 +24,7 @@ pub fn interface_version() -> u32
 
 // The number of a reading, and its fields in a list of seven. In place of a reading any answer is told, also one that is no refusal.
 pub fn read(decoded: Result<Instruction, Answer>, fields: &mut [u32]) -> u32
-    ensures { (result ≡ number_in (outcome_of decoded)) × (fields.new ≡ read_into (outcome_of decoded) fields.old) }
+    ensures { (result ≡ number_in (outcome_as decoded)) × (fields.new ≡ read_into (outcome_as decoded) fields.old) }
 {
     match decoded {
         Ok(instruction) => {

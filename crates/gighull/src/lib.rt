@@ -97,6 +97,7 @@ pub extern "C" fn gighull_conflict(
     ensures { (result ≡ number_in (conflict_of (setting_of vl features) first second)) × (conflict.new ≡ yes_in (conflict_of (setting_of vl features) first second)) }
 {
     let reply = stretch::conflict(Setting { vl, features }, first, second);
+    // what is told takes any answer, and a refusal is one
     let reply = reply.map_err(Err);
     *conflict = replies::yes(reply);
     replies::number(reply)

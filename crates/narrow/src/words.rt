@@ -37,14 +37,14 @@ pub(crate) fn even_saturated<const W: usize>(
     middle_apart::<W>(z, n, r, shift, zn, zd);
 }
 
-// The same at the middle lengths, VL 512 and 1024. To 8 bits in the run's loop too, where a call would take a third of a word's time.
+// The same at the middle lengths, VL 512 and 1024. To 8 bits in the run's loop too: a call adds more than half of a word's time.
 #[inline(always)]
 fn middle<const W: usize>(z: &mut [u8], n: usize, r: bool, shift: u32, zn: usize, zd: usize)
     requires chunks { ChunksReady (length z.old) n (16 / W) W shift zn zd }
     requires length { Middle n }
     ensures { z.new ≡ chunks_of n (16 / W) W true true r false shift zn zd z.old }
 {
-    // by its order: a fourth equality makes a switch of them, whose jump takes longer than a word
+    // by its order: a fourth equality makes a switch of them, whose jump takes up to as long as a word
     if n > 4 {
         return narrow_chunks::<W, true, true>(z, 1, 128 / W, r, false, shift, zn, zd);
     }
